@@ -1,0 +1,14 @@
+pub mod Chains
+pub mod Expressions
+pub mod Statements
+pub mod Programs
+pub mod Ends
+pub mod Signatures
+pub mod Tables
+pub mod Examples
+pub mod Turns
+pub mod Fuel
+pub mod Meaning
+pub mod Stops
+pub mod More
+pub mod Promises
