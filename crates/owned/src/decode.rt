@@ -133,14 +133,14 @@ impl Statement {
 }
 
 // The word at a place, 0 past the end.
-fn word(rows: &[u32], at: usize) -> u32
+pub(crate) fn word(rows: &[u32], at: usize) -> u32
     ensures { λ r. ⌜ r ≡ getD (now (rows .entry)) at 0 ⌝ }
 {
     if at < rows.len() { rows[at] } else { 0 }
 }
 
 // The expression that begins at a place.
-fn expression_at(rows: &[u32], at: usize) -> Option<Expression>
+pub(crate) fn expression_at(rows: &[u32], at: usize) -> Option<Expression>
     requires { ⌜ length (now rows) ≤ 16384 ⌝ ∗ ⌜ at ≤ length (now rows) ⌝ }
     ensures { λ r. ⌜ NodeAt (now (rows .entry)) at r ⌝ }
 {
@@ -153,7 +153,7 @@ fn expression_at(rows: &[u32], at: usize) -> Option<Expression>
 }
 
 // The statement that begins at a place.
-fn statement_at(rows: &[u32], at: usize) -> Option<Statement>
+pub(crate) fn statement_at(rows: &[u32], at: usize) -> Option<Statement>
     requires { ⌜ length (now rows) ≤ 16384 ⌝ ∗ ⌜ at ≤ length (now rows) ⌝ }
     ensures { λ r. ⌜ HeadAt (now (rows .entry)) at r ⌝ }
 {

@@ -1,20 +1,52 @@
-ghost use Rattle.owned.specs.Says.{ReadPost};
+ghost use mathlib.Core.Path.{_≡_};
+ghost use Prim.Native.Nat.{_+_, _*_};
+ghost use lib.Dec.{leb};
+ghost use lib.ListN.{length};
+ghost use Rattle.owned.specs.Says.{JudgedPost};
 
+mod cells;
 mod decode;
 mod names;
 mod procs;
+mod rules;
+mod varset;
 
-use procs::MAX_PROCEDURES;
 pub use procs::MAX_WORDS;
 use procs::procedures;
+use rules::keeps_rules;
 
-// Whether the rows are a program.
-pub fn is_program(rows: &[u32]) -> bool
-    ensures { λ r. ⌜ ReadPost (now (rows .entry)) r ⌝ }
+// What is said of a program: it keeps the rules or not; the rows are none; or there are too few work words to tell.
+#[derive(Clone, Copy, Debug, PartialEq, Eq)]
+pub enum Judged {
+    Keeps,
+    Careless,
+    NoProgram,
+    Few,
+}
+
+// Whether there are enough work words: 8,192, and 4 for each word of the program.
+fn enough(words: usize, work: usize) -> bool
+    ensures { λ r. ⌜ r ≡ leb (8192 + 4 * words) work ⌝ }
 {
-    if rows.len() > MAX_WORDS {
-        return false;
+    work >= 8192 && (work - 8192) / 4 >= words
+}
+
+// Whether rows are a program, and whether it keeps the ownership rules.
+pub fn judge(program: &[u32], work: &mut [u32]) -> Judged
+    ensures { λ r. ⌜ JudgedPost (now (program .entry)) (length (now (work .entry))) r ⌝ }
+{
+    if !enough(program.len(), work.len()) {
+        return Judged::Few;
     }
-    let mut starts = [0; MAX_PROCEDURES];
-    procedures(rows, &mut starts).is_some()
+    if program.len() > MAX_WORDS {
+        return Judged::NoProgram;
+    }
+    let Some(count) = procedures(program, work) else {
+        return Judged::NoProgram;
+    };
+    if keeps_rules(program, &work[0..count]) {
+        Judged::Keeps
+    } else {
+        Judged::Careless
+    }
 }

@@ -1,9 +1,15 @@
 ghost use mathlib.Core.Path.{_≡_};
-ghost use Prim.Native.Nat.{_+_, _≤_};
-ghost use lib.ListN.{length, drop};
+ghost use Prim.Native.Nat.{_+_, _≤_, _<_};
+ghost use lib.ListN.{length, drop, getD};
+ghost use lib.Dec.{eqb, ltb};
 ghost use Rattle.owned.specs.Decode.{many, below1, readSig, readP};
-ghost use Rattle.owned.specs.Ends.{Ended, WordUpTo, Tabled};
+ghost use Rattle.owned.specs.Ends.{Ended, WordUpTo, Tabled, Placed};
+ghost use Rattle.owned.specs.Kept.{there};
+ghost use Rattle.owned.specs.Program.{Prog, kind, isLent};
+ghost use Rattle.owned.specs.Views.{seen, Found};
 use crate::decode::statements_end;
+use crate::names::Kind;
+use crate::names::Var;
 
 // The most that a program may have of each.
 pub const MAX_WORDS: usize = 16384;
@@ -19,7 +25,7 @@ const MAX_KIND: u32 = 8;
 const MAX_NESTING: u32 = 128;
 
 // The mark of an argument that is lent; 0 is handed over.
-const LENT: u32 = 1;
+pub(crate) const LENT: u32 = 1;
 
 // The word at a place, if it is there and at most `most`.
 fn word_up_to(rows: &[u32], at: usize, most: u32) -> Option<u32>
@@ -86,4 +92,67 @@ pub(crate) fn procedures(rows: &[u32], starts: &mut [u32]) -> Option<usize>
         n += 1;
     }
     Some(n)
+}
+
+// A procedure in the rows, among the others.
+#[derive(Drop)]
+pub(crate) struct Procedure<'a> {
+    pub(crate) rows: &'a [u32],
+    pub(crate) starts: &'a [u32],
+    pub(crate) kinds: &'a [u32],
+    pub(crate) args: &'a [u32],
+    pub(crate) result: Var,
+    pub(crate) body: usize,
+}
+
+impl<'a> Procedure<'a> {
+    // The procedure with a number, by where procedures begin.
+    pub(crate) fn find(rows: &'a [u32], starts: &'a [u32], f: usize) -> Procedure<'a>
+        requires { ⌜ f < length (now starts) ⌝ ∗ ⌜ length (now rows) ≤ 16384 ⌝ ∗ ⌜ ((g : Prog) × Placed (now rows) (now starts) g) ⌝ }
+        ensures { λ r. ⌜ Found (now (rows .entry)) (now (starts .entry)) f (seen r) ⌝ }
+    {
+        let at = starts[f] as usize;
+        let middle = at + 1 + rows[at] as usize;
+        let last = middle + 1 + rows[middle] as usize;
+        Procedure {
+            rows,
+            starts,
+            kinds: &rows[at + 1..middle],
+            args: &rows[middle + 1..last],
+            result: Var(rows[last]),
+            body: last + 1,
+        }
+    }
+
+    // Whether a variable is there.
+    pub(crate) fn has(&self, x: Var) -> bool
+        ensures { λ r. ⌜ r ≡ there (seen (now (self .entry)) .sig) (x .0) ⌝ }
+    {
+        (x.0 as usize) < self.kinds.len()
+    }
+
+    // A variable's kind; of one that is not there, 0.
+    pub(crate) fn kind(&self, x: Var) -> Kind
+        ensures { λ r. ⌜ r .0 ≡ kind (seen (now (self .entry)) .sig) (x .0) ⌝ }
+    {
+        if self.has(x) {
+            Kind(self.kinds[x.0 as usize])
+        } else {
+            Kind(0)
+        }
+    }
+
+    // The mark of an argument; of another variable, 0.
+    pub(crate) fn mark(&self, x: Var) -> u32
+        ensures { λ r. ⌜ r ≡ getD (seen (now (self .entry)) .sig .args) (x .0) 0 ⌝ }
+    {
+        let i = x.0 as usize;
+        if i < self.args.len() { self.args[i] } else { 0 }
+    }
+
+    pub(crate) fn is_lent(&self, x: Var) -> bool
+        ensures { λ r. ⌜ r ≡ isLent (seen (now (self .entry)) .sig) (x .0) ⌝ }
+    {
+        self.mark(x) == LENT
+    }
 }
