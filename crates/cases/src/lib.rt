@@ -2,4 +2,8 @@
 #[cfg(test)]
 mod limits;
 #[cfg(test)]
+mod says;
+#[cfg(test)]
+mod slips;
+#[cfg(test)]
 mod words;

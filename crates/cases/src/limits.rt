@@ -1,5 +1,5 @@
 // The limits of a program, each looked at from both sides.
-use owned::is_program;
+use crate::says::is_program;
 use std::alloc::AllocError;
 use std::alloc::Global;
 use std::test::*;
@@ -92,12 +92,12 @@ fn reads(
     n: usize,
     tail: &[u32],
 ) -> Result<bool, AllocError> {
-    Ok(is_program(rows(heap, head, middle, n, tail)?.as_slice()))
+    is_program(heap, rows(heap, head, middle, n, tail)?.as_slice())
 }
 
 #[test]
-fn nothing_is_a_program() -> Result<(), Fail> {
-    check(is_program(&[]))
+fn nothing_is_a_program(rt: LibcRuntime) -> Result<(), Fail> {
+    check(is_program(rt.alloc(), &[])?)
 }
 
 // So many statements in one another, each but the last a pair.
@@ -146,19 +146,19 @@ fn arguments(rt: LibcRuntime) -> Result<(), Fail> {
             &[0, 0],
         )?,
     )?;
-    check(is_program(&[2, 0, 0, 2, 0, 1, 5, 0]))?;
-    check(!is_program(&[2, 0, 0, 3, 0, 1, 1, 5, 0]))
+    check(is_program(rt.alloc(), &[2, 0, 0, 2, 0, 1, 5, 0])?)?;
+    check(!is_program(rt.alloc(), &[2, 0, 0, 3, 0, 1, 1, 5, 0])?)
 }
 
 // Kinds and marks are within their limits, also in a call.
 #[test]
-fn kinds_and_marks() -> Result<(), Fail> {
-    check(is_program(&[1, 8, 0, 0, 0]))?;
-    check(!is_program(&[1, 9, 0, 0, 0]))?;
-    check(is_program(&[1, 0, 1, 1, 0, 0]))?;
-    check(!is_program(&[1, 0, 1, 2, 0, 0]))?;
-    check(is_program(&[0, 0, 0, 11, 9, 99, 1, 4, 1]))?;
-    check(!is_program(&[0, 0, 0, 11, 9, 99, 1, 4, 2]))
+fn kinds_and_marks(rt: LibcRuntime) -> Result<(), Fail> {
+    check(is_program(rt.alloc(), &[1, 8, 0, 0, 0])?)?;
+    check(!is_program(rt.alloc(), &[1, 9, 0, 0, 0])?)?;
+    check(is_program(rt.alloc(), &[1, 0, 1, 1, 0, 0])?)?;
+    check(!is_program(rt.alloc(), &[1, 0, 1, 2, 0, 0])?)?;
+    check(is_program(rt.alloc(), &[0, 0, 0, 11, 9, 99, 1, 4, 1])?)?;
+    check(!is_program(rt.alloc(), &[0, 0, 0, 11, 9, 99, 1, 4, 2])?)
 }
 
 // A call with many arguments, then a statement of two or three words.
@@ -167,10 +167,10 @@ fn words(rt: LibcRuntime) -> Result<(), Fail> {
     let call = [0, 0, 0, 1, 11, 0, 0, 8187];
     let whole = rows(rt.alloc(), &call, &[0, 1], 8187, &[8, 0])?;
     check_eq(whole.len(), 16384)?;
-    check(is_program(whole.as_slice()))?;
+    check(is_program(rt.alloc(), whole.as_slice())?)?;
     let long = rows(rt.alloc(), &call, &[0, 1], 8187, &[3, 0, 0])?;
     check_eq(long.len(), 16385)?;
-    check(!is_program(long.as_slice()))?;
+    check(!is_program(rt.alloc(), long.as_slice())?)?;
     check(
         reads(
             rt.alloc(),
@@ -184,18 +184,21 @@ fn words(rt: LibcRuntime) -> Result<(), Fail> {
 
 // Two procedures, of 34 and 22 words: only between them can the rows be cut.
 #[test]
-fn cut_anywhere() -> Result<(), Fail> {
+fn cut_anywhere(rt: LibcRuntime) -> Result<(), Fail> {
     for n in 0..57 {
-        check_eq(is_program(&LENDING[0..n]), n == 0 || n == 34 || n == 56)?;
+        check_eq(
+            is_program(rt.alloc(), &LENDING[0..n])?,
+            n == 0 || n == 34 || n == 56,
+        )?;
     }
     Ok(())
 }
 
 // Numbers that begin no statement or expression.
 #[test]
-fn codes() -> Result<(), Fail> {
-    check(is_program(&[0, 0, 0, 12, 5, 0, 1, 1, 2]))?;
-    check(!is_program(&[0, 0, 0, 13]))?;
-    check(!is_program(&[0, 0, 0, 4294967295, 0, 0]))?;
-    check(!is_program(&[0, 0, 0, 12, 6, 0, 1, 0, 1]))
+fn codes(rt: LibcRuntime) -> Result<(), Fail> {
+    check(is_program(rt.alloc(), &[0, 0, 0, 12, 5, 0, 1, 1, 2])?)?;
+    check(!is_program(rt.alloc(), &[0, 0, 0, 13])?)?;
+    check(!is_program(rt.alloc(), &[0, 0, 0, 4294967295, 0, 0])?)?;
+    check(!is_program(rt.alloc(), &[0, 0, 0, 12, 6, 0, 1, 0, 1])?)
 }
