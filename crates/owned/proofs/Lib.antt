@@ -20,6 +20,7 @@ pub mod Calls
 pub mod Whole
 pub mod Places
 pub mod Marks
+pub mod Refinement
 pub mod Trees
 pub mod Simulation
 pub mod SimulationStatements

@@ -24,7 +24,7 @@ use Rattle.owned.proofs.Examples.{worked}
 use Rattle.owned.proofs.Stops.{machine-runs}
 use Rattle.owned.proofs.More.{more}
 use Rattle.owned.proofs.Simulation.{first-chooses}
-use Rattle.owned.proofs.Safety.{one-holder, value-reading, never-faults, nothing-left, any-cells}
+use Rattle.owned.proofs.Safety.{one-holder, steps-strictly, value-reading, never-faults, nothing-left, any-cells}
 
 pub parts : Parts
 parts = record {
@@ -34,6 +34,7 @@ parts = record {
   machine = machine-runs;
   more = more;
   one-holder = one-holder;
+  strict = steps-strictly;
   first-free = first-chooses;
   value-reading = value-reading machine-runs;
   never-faults = never-faults machine-runs;

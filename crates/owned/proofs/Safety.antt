@@ -1,5 +1,5 @@
 -- What follows from simulation and typing: a program that keeps the rules never faults, leaves nothing, does what it
--- does on trees whichever free cells it gets, and has one holder for each cell at every moment.
+-- does on trees whichever free cells it gets, has one holder for each cell at every moment, and takes strict steps.
 use mathlib.Core.Path.{_≡_, sym, _∙_, ap, subst}
 use mathlib.Core.Bool.{true}
 use mathlib.Core.List.{List, [], _∷_}
@@ -9,16 +9,18 @@ use lib.ListN.{length}
 use Rattle.owned.specs.Program.{S, Sig, Prog}
 use Rattle.owned.specs.Runs.{n, St, R, fine, fault, full, spent, deep, Chooser, first-free, runBy, used}
 use Rattle.owned.specs.Machine.{Frame, Mach, going, stopped, step, steps, start}
+use Rattle.owned.specs.Strict.{strict}
 use Rattle.owned.specs.Kept.{kept}
 use Rattle.owned.specs.Rows.{rowPs, okPs}
 use Rattle.owned.specs.Values
 use Rattle.owned.specs.Values.{Tree}
 use Rattle.owned.specs.Holders.{Chooses, Held}
-use Rattle.owned.specs.Says.{Machine-runs, Never-faults, Nothing-left, Alike, Value-reading, Same, Any-cells, One-holder}
+use Rattle.owned.specs.Says.{Machine-runs, Never-faults, Nothing-left, Alike, Value-reading, Same, Any-cells, One-holder, Steps-strictly}
 use Rattle.owned.proofs.TypingRules.{rows-ok, sound}
 use Rattle.owned.proofs.Simulation.{first-chooses}
-use Rattle.owned.proofs.SimulationSteps.{MachSim, Empty, step-sim, start-sim}
+use Rattle.owned.proofs.SimulationSteps.{MachSim, Empty, NoFault, agreed, strict-sim, step-sim, start-sim}
 use Rattle.owned.proofs.TypingSteps.{Typed, step-typed, start-typed}
+use Rattle.owned.proofs.Refinement.{step-strict}
 use Rattle.owned.proofs.Holding.{held}
 
 -- the machine does what the value machine does, and that is typed
@@ -56,6 +58,24 @@ safe-held g d p ss s fs (Values.stopped Values.deep) h = not-going deep d p ss s
 
 pub one-holder : One-holder
 one-holder t g ch cells depth turns i d p ss s fs r k c e = safe-held g d p ss s fs _ (subst (λ m. Safe g m (Values.steps g i (Values.start g cells depth turns))) e (always-safe g (rows-ok t g r) k ch c cells depth turns i))
+
+-- what is typed has not come to a fault
+typed-well : (g : Prog) (v : Values.Mach) → Typed g v → NoFault Empty v
+typed-well g (Values.going d p ss w fs) t = tt
+typed-well g (Values.stopped (Values.fine w)) t = tt
+typed-well g (Values.stopped Values.fault) t = t
+typed-well g (Values.stopped Values.full) t = tt
+typed-well g (Values.stopped Values.spent) t = tt
+typed-well g (Values.stopped Values.deep) t = tt
+
+-- so the next step is the strict one
+pub steps-strictly : Steps-strictly
+steps-strictly t g ch cells depth turns i r k c =
+    let o = rows-ok t g r in
+    let m : Mach = steps ch g i (start g cells depth turns) in
+    let v : Values.Mach = Values.steps g i (Values.start g cells depth turns) in
+    let h = always-safe g o k ch c cells depth turns i in
+    agreed Empty (step ch g m) (strict ch g m) (Values.step g v) (typed-well g (Values.step g v) (step-typed g (sound g o k) v (h .typed))) (strict-sim Empty ch c g m v (h .sim)) (step-strict ch g m)
 
 -- and one that stopped ended as the value machine did
 safe-alike : (g : Prog) (r : R) (v : Values.Mach) → Safe g (stopped r) v → Alike r v

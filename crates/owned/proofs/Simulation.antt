@@ -1,5 +1,5 @@
--- What a statement does with cells is what it does with trees, wherever the latter is no fault; a new box may get any
--- free cell. No rules here: the value machine's own tests say all that is needed of the trees.
+-- What a strict statement does with cells is what it does with trees, wherever the latter is no fault; a new box may get
+-- any free cell. No rules here: the value machine's own tests say all that is needed of the trees.
 use mathlib.Core.Path.{_≡_, refl}
 use mathlib.Core.Bool.{Bool, true, false, _&&_, not, cond}
 use mathlib.Core.List.{List, [], _∷_}
@@ -14,13 +14,14 @@ use Rattle.std.proofs.shelf.Lists.{getD-set-other}
 use Rattle.std.proofs.shelf.Maps.{nth-getD}
 use Rattle.std.proofs.shelf.Tests.{and-parts, not-true, cases-eq, both-ways}
 use Rattle.owned.specs.Program.{E, Sig, isLent}
-use Rattle.owned.specs.Runs.{Val, at, nothing, Cell, free, holds, St, R, fine, fault, full, spent, deep, bind, May, ok, bad, asNum, value, num, setV, with-cells, get, Took, took, missing, taken, into, first}
+use Rattle.owned.specs.Runs.{Val, at, nothing, Cell, free, holds, St, R, fine, fault, full, spent, deep, bind, May, ok, bad, asNum, value, num, setV, with-cells, get, Took, took, missing, first}
+use Rattle.owned.specs.Strict.{place, fetched}
 use Rattle.owned.specs.Values
 use Rattle.owned.specs.Values.{Tree, ofKind}
 use Rattle.owned.specs.Holders.{Owns, OwnsAll, frees, Chosen}
 use Rattle.owned.specs.Says.{First-free-chooses}
 use Rattle.owned.proofs.Places.{nth-lt, set-found}
-use Rattle.owned.proofs.Trees.{owns-rest, release, all-map, pull, put, stow, unstow, owns-many}
+use Rattle.owned.proofs.Trees.{owns-rest, free-tree, all-map, pull, put, stow, unstow, owns-many}
 
 -- One procedure's variables, beside P: its values own its trees, and lent ones are as they came, which was ws.
 pub record Sim (p : Sig) (P : List Cell → Type 0) (ws : List Val) (s : St) (w : Values.St) : Type 0 where
@@ -124,16 +125,17 @@ first-chooses i cs = go (first cs 0) refl
 
 module _ (p : Sig) (P : List Cell → Type 0) (ws : List Val) where
   -- a tree put into a variable
-  pub into-sim : (k x : ℕ) (t : Tree) (v : Val) (s : St) (w : Values.St) → Sim p (Owns t v P) ws s w → Simulated (Sim p P ws) (into k x v s) (Values.into p k x t w)
-  into-sim k x t v s w i =
-      sim-need (Sim p P ws) (into k x v s) (nth (w .vars) x) _ (λ u e.
-      sim-guard (Sim p P ws) (into k x v s) (ofKind k u && not (isLent p x)) _ (λ c. (
+  pub place-sim : (k x : ℕ) (t : Tree) (v : Val) (s : St) (w : Values.St) → Sim p (Owns t v P) ws s w → Simulated (Sim p P ws) (place k x v s) (Values.into p k x t w)
+  place-sim k x t v s w i =
+      sim-need (Sim p P ws) (place k x v s) (nth (w .vars) x) _ (λ u e.
+      sim-guard (Sim p P ws) (place k x v s) (ofKind k u && not (isLent p x)) _ (λ c. (
       let (ck, cl) = and-parts (ofKind k u) _ c in
       let Q : List Cell → Type 0 = OwnsAll (set (w .vars) x Tree.bare) (set (s .vars) x nothing) (Owns t v P) in
-      let G = release k u (get s x) Q s ck (pull (w .vars) (s .vars) x u (Owns t v P) (s .cells) e (i .own)) in
+      let G = free-tree k u (get s x) Q (s .cells) ck (pull (w .vars) (s .vars) x u (Owns t v P) (s .cells) e (i .own)) in
+      let th = var-there (w .vars) (s .vars) x u (Owns t v P) (s .cells) e (i .own) in
       let d = G .does in (
         setV (with-cells s (G .left)) x v,
-        rw d refl,
+        rw (th, d) refl,
         record {
           own = put (w .vars) (s .vars) x u t v P (G .left) e (unstow t v (set (w .vars) x Tree.bare) (set (s .vars) x nothing) P (G .left) (G .rest));
           same = same-set p ws (s .vars) x v (i .same) (not-true (isLent p x) cl);
@@ -152,21 +154,22 @@ module _ (p : Sig) (P : List Cell → Type 0) (ws : List Val) where
   TookSim s r Values.missing = Unit {0}
   TookSim s r (Values.took t w) = (v : Val) × (u : St) × (r ≡ took v u) × Sim p (Owns t v P) ws u w × ((i : ℕ) (o : Tree) → nth (w .vars) i ≡ Some (Tree.box o) → get u i ≡ get s i)
 
-  pub take-sim : (k : ℕ) (s : St) (w : Values.St) (y : ℕ) → Sim p P ws s w → TookSim s (taken k s y) (Values.taken p k w y)
+  pub take-sim : (k : ℕ) (s : St) (w : Values.St) (y : ℕ) → Sim p P ws s w → TookSim s (fetched k s y) (Values.taken p k w y)
   take-sim k s w y i = go k (nth (w .vars) y) refl
     where
-      boxed : (k : ℕ) (t : Tree) → nth (w .vars) y ≡ Some (Tree.box t) → (b : Bool) → isLent p y ≡ b → TookSim s (taken (suc k) s y) (cond b Values.missing (Values.took (Tree.box t) (Values.setV w y Tree.bare)))
+      boxed : (k : ℕ) (t : Tree) → nth (w .vars) y ≡ Some (Tree.box t) → (b : Bool) → isLent p y ≡ b → TookSim s (fetched (suc k) s y) (cond b Values.missing (Values.took (Tree.box t) (Values.setV w y Tree.bare)))
       boxed k t e true l = tt
       boxed k t e false l =
           let o = pull (w .vars) (s .vars) y (Tree.box t) P (s .cells) e (i .own) in
           let q = o .3 in
-          (get s y, setV s y nothing, rw q refl, record { own = stow (Tree.box t) (get s y) (set (w .vars) y Tree.bare) (set (s .vars) y nothing) P (s .cells) o; same = same-set p ws (s .vars) y nothing (i .same) l; room = i .room; shown = i .shown; left = i .left }, λ j o′ e′. box-stays (w .vars) (s .vars) y j o′ e′)
+          let th = var-there (w .vars) (s .vars) y (Tree.box t) P (s .cells) e (i .own) in
+          (get s y, setV s y nothing, rw (th, q) refl, record { own = stow (Tree.box t) (get s y) (set (w .vars) y Tree.bare) (set (s .vars) y nothing) P (s .cells) o; same = same-set p ws (s .vars) y nothing (i .same) l; room = i .room; shown = i .shown; left = i .left }, λ j o′ e′. box-stays (w .vars) (s .vars) y j o′ e′)
 
-      go : (k : ℕ) (o : Option Tree) → nth (w .vars) y ≡ o → TookSim s (taken k s y) (Values.takenAs p k w y o)
+      go : (k : ℕ) (o : Option Tree) → nth (w .vars) y ≡ o → TookSim s (fetched k s y) (Values.takenAs p k w y o)
       go k None e = tt
       go zero (Some (Tree.num m)) e =
           let q = pull (w .vars) (s .vars) y (Tree.num m) P (s .cells) e (i .own) .0 in
-          (get s y, s, refl, in-hand (Tree.num m) (get s y) s w (λ ds h. (q, h)) i, λ j o′ e′. refl)
+          (get s y, s, rw (var-there (w .vars) (s .vars) y (Tree.num m) P (s .cells) e (i .own)) refl, in-hand (Tree.num m) (get s y) s w (λ ds h. (q, h)) i, λ j o′ e′. refl)
       go (suc k) (Some (Tree.num m)) e = tt
       go zero (Some Tree.bare) e = tt
       go (suc k) (Some Tree.bare) e = tt

@@ -9,10 +9,11 @@ use lib.Dec.{eqb}
 use Rattle.std.specs.declared.option.Option.{Option}
 use Rattle.std.specs.declared.option.Option.the-variants.{Some, None}
 use Rattle.std.specs.Finite.{nth}
-use Rattle.std.proofs.shelf.Lists.{getD-set-other, set-comm}
+use Rattle.std.proofs.shelf.Lists.{set-comm}
 use Rattle.std.proofs.shelf.Tests.{eqb-false, ne-eqb, or-from, or-parts}
 use Rattle.owned.specs.Program.{Arg, Sig, kind, isLent}
-use Rattle.owned.specs.Runs.{Val, n, at, nothing, St, setV, get, Took, took, missing, handOne, more, hand}
+use Rattle.owned.specs.Runs.{Val, n, at, nothing, St, setV, Took, took, missing, takenBox, more}
+use Rattle.owned.specs.Strict.{takenAt, lentAt, passOne, pass}
 use Rattle.owned.specs.Kept.{again}
 use Rattle.owned.specs.Values
 use Rattle.owned.specs.Values.{Tree}
@@ -26,33 +27,41 @@ not-took-tree : {A B : Type 0} (t : A) (w : Values.St) → _≡_ {A = Values.Too
 not-took-tree t w e = let z : _≡_ {A = ℕ} 0 1 = cc in let y : ⊥ = omega arith in elim y [ ]
 
 -- an argument in another variable neither sees nor changes x
-one-apart : (m k y : ℕ) (s : St) (x : ℕ) (v v′ : Val) (t : St) → (x ≡ y → ⊥) → handOne m k y s ≡ took v′ t → (handOne m k y (setV s x v) ≡ took v′ (setV t x v)) × (nth (t .vars) x ≡ nth (s .vars) x)
-one-apart zero zero y s x v v′ t ne e = let e₁ : v′ ≡ get s y = cc in let e₂ : t ≡ s = cc in (rw (getD-set-other (s .vars) x y v nothing (λ r. ne (sym r)), e₁, e₂) refl, rw e₂ refl)
-one-apart (suc m) k y s x v v′ t ne e = let e₁ : v′ ≡ get s y = cc in let e₂ : t ≡ s = cc in (rw (getD-set-other (s .vars) x y v nothing (λ r. ne (sym r)), e₁, e₂) refl, rw e₂ refl)
-one-apart zero (suc k) y s x v v′ t ne e = go (get s y) refl
+one-apart : (m k y : ℕ) (s : St) (x : ℕ) (v v′ : Val) (t : St) → (x ≡ y → ⊥) → passOne m k y s ≡ took v′ t → (passOne m k y (setV s x v) ≡ took v′ (setV t x v)) × (nth (t .vars) x ≡ nth (s .vars) x)
+one-apart zero k y s x v v′ t ne e = rw (nth-set-other (s .vars) x y v ne) (go k (nth (s .vars) y) e)
   where
-    go : (w : Val) → get s y ≡ w → (handOne zero (suc k) y (setV s x v) ≡ took v′ (setV t x v)) × (nth (t .vars) x ≡ nth (s .vars) x)
-    go (n m) q = not-took v′ t (rw q at e)
-    go nothing q = not-took v′ t (rw q at e)
-    go (at a b) q =
-        let e′ = rw q at e in let e₁ : v′ ≡ at a b = cc in let e₂ : t ≡ setV s y nothing = cc in
-        (rw (getD-set-other (s .vars) x y v nothing (λ r. ne (sym r)), q, e₁, e₂, set-comm (s .vars) x y v nothing ne) refl, rw e₂ (nth-set-other (s .vars) y x nothing (λ r. ne (sym r))))
+    box : (w : Val) → takenBox s y w ≡ took v′ t → (takenBox (setV s x v) y w ≡ took v′ (setV t x v)) × (nth (t .vars) x ≡ nth (s .vars) x)
+    box (n m) e = not-took v′ t e
+    box nothing e = not-took v′ t e
+    box (at a b) e =
+        let e₁ : v′ ≡ at a b = cc in let e₂ : t ≡ setV s y nothing = cc in
+        (rw (e₁, e₂, set-comm (s .vars) x y v nothing ne) refl, rw e₂ (nth-set-other (s .vars) y x nothing (λ r. ne (sym r))))
 
-pub hand-apart : (p : Sig) (bs : List Arg) (s : St) (x : ℕ) (v : Val) (vs : List Val) (u : St) → again x bs ≡ false → hand p bs s ≡ took vs u → (hand p bs (setV s x v) ≡ took vs (setV u x v)) × (nth (u .vars) x ≡ nth (s .vars) x)
-hand-apart p [] s x v vs u a e = let e₁ : vs ≡ [] = cc in let e₂ : u ≡ s = cc in (rw (e₁, e₂) refl, rw e₂ refl)
-hand-apart p (b ∷ bs) s x v vs u a e = go (handOne (b .lent) (kind p (b .of)) (b .of) s) refl (λ t vs′ u′ q. hand-apart p bs t x v vs′ u′ (or-parts (eqb x (b .of)) _ a .1) q)
+    go : (k : ℕ) (o : Option Val) → takenAt k s y o ≡ took v′ t → (takenAt k (setV s x v) y o ≡ took v′ (setV t x v)) × (nth (t .vars) x ≡ nth (s .vars) x)
+    go k None e = not-took v′ t e
+    go zero (Some w) e = let e₁ : v′ ≡ w = cc in let e₂ : t ≡ s = cc in (rw (e₁, e₂) refl, rw e₂ refl)
+    go (suc k) (Some w) e = box w e
+one-apart (suc m) k y s x v v′ t ne e = rw (nth-set-other (s .vars) x y v ne) (go (nth (s .vars) y) e)
+  where
+    go : (o : Option Val) → lentAt s o ≡ took v′ t → (lentAt (setV s x v) o ≡ took v′ (setV t x v)) × (nth (t .vars) x ≡ nth (s .vars) x)
+    go None e = not-took v′ t e
+    go (Some w) e = let e₁ : v′ ≡ w = cc in let e₂ : t ≡ s = cc in (rw (e₁, e₂) refl, rw e₂ refl)
+
+pub pass-apart : (p : Sig) (bs : List Arg) (s : St) (x : ℕ) (v : Val) (vs : List Val) (u : St) → again x bs ≡ false → pass p bs s ≡ took vs u → (pass p bs (setV s x v) ≡ took vs (setV u x v)) × (nth (u .vars) x ≡ nth (s .vars) x)
+pass-apart p [] s x v vs u a e = let e₁ : vs ≡ [] = cc in let e₂ : u ≡ s = cc in (rw (e₁, e₂) refl, rw e₂ refl)
+pass-apart p (b ∷ bs) s x v vs u a e = go (passOne (b .lent) (kind p (b .of)) (b .of) s) refl (λ t vs′ u′ q. pass-apart p bs t x v vs′ u′ (or-parts (eqb x (b .of)) _ a .1) q)
   where
     Rest : Type 0
-    Rest = (t : St) (vs′ : List Val) (u′ : St) → hand p bs t ≡ took vs′ u′ → (hand p bs (setV t x v) ≡ took vs′ (setV u′ x v)) × (nth (u′ .vars) x ≡ nth (t .vars) x)
+    Rest = (t : St) (vs′ : List Val) (u′ : St) → pass p bs t ≡ took vs′ u′ → (pass p bs (setV t x v) ≡ took vs′ (setV u′ x v)) × (nth (u′ .vars) x ≡ nth (t .vars) x)
 
-    tail : Rest → (w : Val) (t : St) (o : Took (List Val)) → hand p bs t ≡ o → more w o ≡ took vs u → (more w (hand p bs (setV t x v)) ≡ took vs (setV u x v)) × (nth (u .vars) x ≡ nth (t .vars) x)
+    tail : Rest → (w : Val) (t : St) (o : Took (List Val)) → pass p bs t ≡ o → more w o ≡ took vs u → (more w (pass p bs (setV t x v)) ≡ took vs (setV u x v)) × (nth (u .vars) x ≡ nth (t .vars) x)
     tail ih w t (took vs′ u′) q r = let e₁ : vs ≡ w ∷ vs′ = cc in let e₂ : u′ ≡ u = cc in let (h, z) = ih t vs′ u′ q in (rw (h, e₁, e₂) refl, rw e₂ at z)
     tail ih w t missing q r = not-took vs u r
 
-    go : (o : Took Val) → handOne (b .lent) (kind p (b .of)) (b .of) s ≡ o → Rest → (hand p (b ∷ bs) (setV s x v) ≡ took vs (setV u x v)) × (nth (u .vars) x ≡ nth (s .vars) x)
+    go : (o : Took Val) → passOne (b .lent) (kind p (b .of)) (b .of) s ≡ o → Rest → (pass p (b ∷ bs) (setV s x v) ≡ took vs (setV u x v)) × (nth (u .vars) x ≡ nth (s .vars) x)
     go (took w t) q ih =
         let (h, z) = one-apart (b .lent) (kind p (b .of)) (b .of) s x v w t (eqb-false x (b .of) (or-parts (eqb x (b .of)) _ a .0)) q in
-        let (h₂, z₂) = tail ih w t (hand p bs t) refl (rw q at e) in
+        let (h₂, z₂) = tail ih w t (pass p bs t) refl (rw q at e) in
         (rw h h₂, z₂ ∙ z)
     go missing q ih = not-took vs u (rw q at e)
 

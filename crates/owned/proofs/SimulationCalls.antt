@@ -13,7 +13,8 @@ use Rattle.std.specs.Finite.{nth}
 use Rattle.std.proofs.shelf.Lists.{getD-set-other, set-set}
 use Rattle.std.proofs.shelf.Tests.{cases-eq}
 use Rattle.owned.specs.Program.{Arg, Sig, kind, isLent}
-use Rattle.owned.specs.Runs.{Val, n, at, nothing, Cell, St, setV, get, Took, took, missing, taken, handOne, more, onto, hand}
+use Rattle.owned.specs.Runs.{Val, n, at, nothing, Cell, St, setV, get, Took, took, missing}
+use Rattle.owned.specs.Strict.{fetched, pass}
 use Rattle.owned.specs.Kept.{again}
 use Rattle.owned.specs.Values
 use Rattle.owned.specs.Values.{Tree}
@@ -21,7 +22,7 @@ use Rattle.owned.specs.Holders.{Owns, OwnsAll, frees}
 use Rattle.owned.proofs.Places.{none-some, nth-set, set-nth, getD-nth, getD-set-default}
 use Rattle.owned.proofs.Trees.{all-map, pull, stow, unstow}
 use Rattle.owned.proofs.Simulation.{Sim, var-there, TookSim, take-sim}
-use Rattle.owned.proofs.SimulationArguments.{hand-apart, bare-apart}
+use Rattle.owned.proofs.SimulationArguments.{pass-apart, bare-apart}
 
 -- a caller's values from those without what it lent: the lent boxes put back
 abbrev pub patchOne : ℕ → Val → ℕ → List Val → List Val
@@ -93,9 +94,9 @@ same-refill p ws vs x v th was h y l = go (cases-eq y x)
     go (inr ne) = getD-set-other vs x y v nothing ne ∙ (h y l ∙ getD-set-other ws x y nothing nothing ne)
 
 module _ (p : Sig) (a : Arg) (bs : List Arg) (P : List Cell → Type 0) (ws : List Val) (s : St) (w : Values.St) (i : Sim p P ws s w)
-    (ih : (P′ : List Cell → Type 0) (ws′ : List Val) (s′ : St) (w′ : Values.St) → Sim p P′ ws′ s′ w′ → HandSim p P′ ws′ bs (hand p bs s′) (Values.hand p bs w′)) where
+    (ih : (P′ : List Cell → Type 0) (ws′ : List Val) (s′ : St) (w′ : Values.St) → Sim p P′ ws′ s′ w′ → HandSim p P′ ws′ bs (pass p bs s′) (Values.hand p bs w′)) where
   -- one that is handed over, before the others
-  over : (t : Tree) (v : Val) (s′ : St) → a .lent ≡ 0 → taken (kind p (a .of)) s (a .of) ≡ took v s′ → (o : Values.Took (List Tree)) → HandSim p (Owns t v P) ws bs (hand p bs s′) o → HandSim p P ws (a ∷ bs) (hand p (a ∷ bs) s) (Values.more t o)
+  over : (t : Tree) (v : Val) (s′ : St) → a .lent ≡ 0 → fetched (kind p (a .of)) s (a .of) ≡ took v s′ → (o : Values.Took (List Tree)) → HandSim p (Owns t v P) ws bs (pass p bs s′) o → HandSim p P ws (a ∷ bs) (pass p (a ∷ bs) s) (Values.more t o)
   over t v s′ m e Values.missing G = tt
   over t v s′ m e (Values.took ts w″) G =
       let q = G .is in
@@ -115,16 +116,16 @@ module _ (p : Sig) (a : Arg) (bs : List Arg) (P : List Cell → Type 0) (ws : Li
       }
 
   -- a number that is lent
-  lent-number : (m k : ℕ) → a .lent ≡ suc m → nth (w .vars) (a .of) ≡ Some (Tree.num k) → (o : Values.Took (List Tree)) → HandSim p P ws bs (hand p bs s) o → HandSim p P ws (a ∷ bs) (hand p (a ∷ bs) s) (Values.more (Tree.num k) o)
+  lent-number : (m k : ℕ) → a .lent ≡ suc m → nth (w .vars) (a .of) ≡ Some (Tree.num k) → (o : Values.Took (List Tree)) → HandSim p P ws bs (pass p bs s) o → HandSim p P ws (a ∷ bs) (pass p (a ∷ bs) s) (Values.more (Tree.num k) o)
   lent-number m k e q Values.missing G = tt
   lent-number m k e q (Values.took ts w″) G =
       let r = G .is in let qv = pull (w .vars) (s .vars) (a .of) (Tree.num k) P (s .cells) q (i .own) .0 in
-      record { vs = get s (a .of) ∷ G .vs; u = G .u; gv = G .gv; is = rw (e, r) refl; own = (qv, G .own); vars = rw (e, qv) (G .vars); many = ap suc (G .many); same = G .same; lends = lends-cons a bs (get s (a .of)) (G .vs) (G .u .vars) (λ j c d el ev. (let z : _≡_ {A = ℕ} 0 1 = cc in let y : ⊥ = omega arith in elim y [ ])) (G .lends); room = G .room; shown = G .shown; left = G .left }
+      record { vs = get s (a .of) ∷ G .vs; u = G .u; gv = G .gv; is = rw (e, var-there (w .vars) (s .vars) (a .of) (Tree.num k) P (s .cells) q (i .own), r) refl; own = (qv, G .own); vars = rw (e, qv) (G .vars); many = ap suc (G .many); same = G .same; lends = lends-cons a bs (get s (a .of)) (G .vs) (G .u .vars) (λ j c d el ev. (let z : _≡_ {A = ℕ} 0 1 = cc in let y : ⊥ = omega arith in elim y [ ])) (G .lends); room = G .room; shown = G .shown; left = G .left }
 
   -- A box that is lent: what the others do with its variable emptied, as in the value machine, is what they do with it
   -- in its place.
   lent-box : (m : ℕ) (t : Tree) → a .lent ≡ suc m → nth (w .vars) (a .of) ≡ Some (Tree.box t) → (o : Values.Took (List Tree)) → Values.hand p bs (Values.setV w (a .of) Tree.bare) ≡ o
-      → HandSim p (Owns (Tree.box t) (get s (a .of)) P) (set ws (a .of) nothing) bs (hand p bs (setV s (a .of) nothing)) o → HandSim p P ws (a ∷ bs) (hand p (a ∷ bs) s) (Values.more (Tree.box t) o)
+      → HandSim p (Owns (Tree.box t) (get s (a .of)) P) (set ws (a .of) nothing) bs (pass p bs (setV s (a .of) nothing)) o → HandSim p P ws (a ∷ bs) (pass p (a ∷ bs) s) (Values.more (Tree.box t) o)
   lent-box m t e q Values.missing eo G = tt
   lent-box m t e q (Values.took ts w″) eo G =
       let v : Val = get s (a .of) in
@@ -132,14 +133,14 @@ module _ (p : Sig) (a : Arg) (bs : List Arg) (P : List Cell → Type 0) (ws : Li
       let isat = o .3 in
       let th : nth (s .vars) (a .of) ≡ Some v = var-there (w .vars) (s .vars) (a .of) (Tree.box t) P (s .cells) q (i .own) in
       let na : again (a .of) bs ≡ false = bare-apart p bs (Values.setV w (a .of) Tree.bare) (a .of) ts w″ eo (nth-set (w .vars) (a .of) (Tree.box t) Tree.bare q) in
-      let (un, st) = hand-apart p bs (setV s (a .of) nothing) (a .of) v (G .vs) (G .u) na (G .is) in
-      let hs : hand p bs s ≡ took (G .vs) (setV (G .u) (a .of) v) = rw (set-set (s .vars) (a .of) nothing v, set-nth (s .vars) (a .of) v th) at un in
+      let (un, st) = pass-apart p bs (setV s (a .of) nothing) (a .of) v (G .vs) (G .u) na (G .is) in
+      let hs : pass p bs s ≡ took (G .vs) (setV (G .u) (a .of) v) = rw (set-set (s .vars) (a .of) nothing v, set-nth (s .vars) (a .of) v th) at un in
       let em : nth (G .u .vars) (a .of) ≡ Some nothing = st ∙ nth-set (s .vars) (a .of) v nothing th in
       record {
         vs = v ∷ G .vs;
         u = setV (G .u) (a .of) v;
         gv = G .gv;
-        is = rw (e, hs) refl;
+        is = rw (e, th, hs) refl;
         own = unstow (Tree.box t) v ts (G .vs) (OwnsAll (w″ .vars) (G .gv) P) (G .u .cells) (all-map ts (G .vs) (OwnsAll (w″ .vars) (G .gv) (Owns (Tree.box t) v P)) (Owns (Tree.box t) v (OwnsAll (w″ .vars) (G .gv) P)) (G .u .cells) (unstow (Tree.box t) v (w″ .vars) (G .gv) P) (G .own));
         vars = rw (e, isat) (ap (λ l. set l (a .of) (at (o .0) (o .1))) (G .vars));
         many = ap suc (G .many);
@@ -150,21 +151,21 @@ module _ (p : Sig) (a : Arg) (bs : List Arg) (P : List Cell → Type 0) (ws : Li
         left = G .left;
       }
 
-  by-tree : (m : ℕ) → a .lent ≡ suc m → (o : Option Tree) → nth (w .vars) (a .of) ≡ o → HandSim p P ws (a ∷ bs) (hand p (a ∷ bs) s) (Values.onto (Values.lentAs w (a .of) o) (λ t u. Values.more t (Values.hand p bs u)))
+  by-tree : (m : ℕ) → a .lent ≡ suc m → (o : Option Tree) → nth (w .vars) (a .of) ≡ o → HandSim p P ws (a ∷ bs) (pass p (a ∷ bs) s) (Values.onto (Values.lentAs w (a .of) o) (λ t u. Values.more t (Values.hand p bs u)))
   by-tree m e None q = tt
   by-tree m e (Some (Tree.num k)) q = lent-number m k e q (Values.hand p bs w) (ih P ws s w i)
   by-tree m e (Some Tree.bare) q = tt
   by-tree m e (Some (Tree.box t)) q = lent-box m t e q (Values.hand p bs (Values.setV w (a .of) Tree.bare)) refl (ih (Owns (Tree.box t) (get s (a .of)) P) (set ws (a .of) nothing) (setV s (a .of) nothing) (Values.setV w (a .of) Tree.bare)
       (record { own = stow (Tree.box t) (get s (a .of)) (set (w .vars) (a .of) Tree.bare) (set (s .vars) (a .of) nothing) P (s .cells) (pull (w .vars) (s .vars) (a .of) (Tree.box t) P (s .cells) q (i .own)); same = same-blank p ws (s .vars) (a .of) (i .same); room = i .room; shown = i .shown; left = i .left }))
 
-  by-taken : a .lent ≡ 0 → (o : Values.Took Tree) → TookSim p P ws s (taken (kind p (a .of)) s (a .of)) o → HandSim p P ws (a ∷ bs) (hand p (a ∷ bs) s) (Values.onto o (λ t u. Values.more t (Values.hand p bs u)))
+  by-taken : a .lent ≡ 0 → (o : Values.Took Tree) → TookSim p P ws s (fetched (kind p (a .of)) s (a .of)) o → HandSim p P ws (a ∷ bs) (pass p (a ∷ bs) s) (Values.onto o (λ t u. Values.more t (Values.hand p bs u)))
   by-taken e Values.missing q = tt
   by-taken e (Values.took t w′) (v, s′, e′, i′, _) = over t v s′ e e′ (Values.hand p bs w′) (ih (Owns t v P) ws s′ w′ i′)
 
-  by-mark : (m : ℕ) → a .lent ≡ m → HandSim p P ws (a ∷ bs) (hand p (a ∷ bs) s) (Values.hand p (a ∷ bs) w)
-  by-mark zero e = subst (λ (c : ℕ). HandSim p P ws (a ∷ bs) (hand p (a ∷ bs) s) (Values.onto (Values.handOne p c (kind p (a .of)) (a .of) w) (λ t u. Values.more t (Values.hand p bs u)))) (sym e) (by-taken e (Values.taken p (kind p (a .of)) w (a .of)) (take-sim p P ws (kind p (a .of)) s w (a .of) i))
-  by-mark (suc m) e = subst (λ (c : ℕ). HandSim p P ws (a ∷ bs) (hand p (a ∷ bs) s) (Values.onto (Values.handOne p c (kind p (a .of)) (a .of) w) (λ t u. Values.more t (Values.hand p bs u)))) (sym e) (by-tree m e (nth (w .vars) (a .of)) refl)
+  by-mark : (m : ℕ) → a .lent ≡ m → HandSim p P ws (a ∷ bs) (pass p (a ∷ bs) s) (Values.hand p (a ∷ bs) w)
+  by-mark zero e = subst (λ (c : ℕ). HandSim p P ws (a ∷ bs) (pass p (a ∷ bs) s) (Values.onto (Values.handOne p c (kind p (a .of)) (a .of) w) (λ t u. Values.more t (Values.hand p bs u)))) (sym e) (by-taken e (Values.taken p (kind p (a .of)) w (a .of)) (take-sim p P ws (kind p (a .of)) s w (a .of) i))
+  by-mark (suc m) e = subst (λ (c : ℕ). HandSim p P ws (a ∷ bs) (pass p (a ∷ bs) s) (Values.onto (Values.handOne p c (kind p (a .of)) (a .of) w) (λ t u. Values.more t (Values.hand p bs u)))) (sym e) (by-tree m e (nth (w .vars) (a .of)) refl)
 
-pub hand-sim : (p : Sig) (bs : List Arg) (P : List Cell → Type 0) (ws : List Val) (s : St) (w : Values.St) → Sim p P ws s w → HandSim p P ws bs (hand p bs s) (Values.hand p bs w)
-hand-sim p [] P ws s w i = record { vs = []; u = s; gv = s .vars; is = refl; own = i .own; vars = refl; many = refl; same = i .same; lends = λ j a m c b e l q. none-some a e; room = i .room; shown = i .shown; left = i .left }
-hand-sim p (a ∷ bs) P ws s w i = by-mark p a bs P ws s w i (λ P′ ws′ s′ w′ i′. hand-sim p bs P′ ws′ s′ w′ i′) (a .lent) refl
+pub pass-sim : (p : Sig) (bs : List Arg) (P : List Cell → Type 0) (ws : List Val) (s : St) (w : Values.St) → Sim p P ws s w → HandSim p P ws bs (pass p bs s) (Values.hand p bs w)
+pass-sim p [] P ws s w i = record { vs = []; u = s; gv = s .vars; is = refl; own = i .own; vars = refl; many = refl; same = i .same; lends = λ j a m c b e l q. none-some a e; room = i .room; shown = i .shown; left = i .left }
+pass-sim p (a ∷ bs) P ws s w i = by-mark p a bs P ws s w i (λ P′ ws′ s′ w′ i′. pass-sim p bs P′ ws′ s′ w′ i′) (a .lent) refl

@@ -2,6 +2,7 @@
 pub mod Program
 pub mod Runs
 pub mod Machine
+pub mod Strict
 pub mod FreeList
 pub mod Code
 pub mod Kept

@@ -9,7 +9,8 @@ use Rattle.owned.specs.declared.Judged.{Judged}
 use Rattle.owned.specs.declared.Judged.the-variants.{Keeps, Careless, NoProgram, Few}
 use Rattle.owned.specs.Program.{S, Sig, Prog}
 use Rattle.owned.specs.Runs.{n, St, R, fine, fault, full, spent, deep, Chooser, first-free, runBy, run, used}
-use Rattle.owned.specs.Machine.{Frame, going, stopped, steps, start}
+use Rattle.owned.specs.Machine.{Frame, going, stopped, step, steps, start}
+use Rattle.owned.specs.Strict.{strict}
 use Rattle.owned.specs.Kept.{kept}
 use Rattle.owned.specs.Rows.{rowPs, Rows}
 use Rattle.owned.specs.Values
@@ -92,6 +93,13 @@ One-holder =
     (s : List ℕ) (g : Prog) (ch : Chooser) (cells depth turns i d : ℕ) (p : Sig) (ss : List S) (t : St) (fs : List Frame) → Rows s g → kept g ≡ true → Chooses ch →
     steps ch g i (start g cells depth turns) ≡ going d p ss t fs → Held g p ss t fs
 
+-- At every moment of such a run the next step is the strict one, which faults where a cell is given back that is no
+-- longer its box's or a variable is not there: so it may be taken in memory without a test.
+abbrev pub Steps-strictly : Type 0
+Steps-strictly =
+    (s : List ℕ) (g : Prog) (ch : Chooser) (cells depth turns i : ℕ) → Rows s g → kept g ≡ true → Chooses ch →
+    step ch g (steps ch g i (start g cells depth turns)) ≡ strict ch g (steps ch g i (start g cells depth turns))
+
 -- the theorems that every promise carries
 pub record Parts : Type 0 where
   pub one-program : One-program
@@ -100,6 +108,7 @@ pub record Parts : Type 0 where
   pub machine : Machine-runs
   pub more : More
   pub one-holder : One-holder
+  pub strict : Steps-strictly
   pub first-free : First-free-chooses
   pub value-reading : Value-reading
   pub never-faults : Never-faults
