@@ -1,18 +1,18 @@
 -- Words of bits as lists: setting, clearing and reading a bit, and words that differ in none.
 -- The lists are read from the lowest bit on, so each lemma goes by halving the word.
 use mathlib.Core.Path.{_≡_, refl, sym, ap, _∙_}
-use mathlib.Core.Bool.{Bool, true, false, _&&_}
+use mathlib.Core.Bool.{Bool, true, false, _&&_, cond}
 use mathlib.Core.List.{List, [], _∷_}
 use mathlib.Core.Logic.{inl, inr}
 use Prim.Native.Nat.{ℕ, zero, suc, _+_, _*_, _/_, _%_, _^_, _<_, _≤_, max, differ}
 use native.Mathlib.Omega.{arith}
 use native.Mathlib.Nat.{one-mul}
-use lib.Dec.{eqb}
+use lib.Dec.{eqb, ltb}
 use lib.ListN.{set, getD, length}
 use lib.Bits.{bitOr, bitXor, or-step, xor-step, or-zero-r, xor-zero-r, shifted-half, shifted-even}
 use Rattle.std.proofs.shelf.Bits.{shr-shr}
-use Rattle.std.proofs.shelf.Lists.{ext-getD, getD-past, set-past, set-getD}
-use Rattle.std.proofs.shelf.Tests.{eqb-true, eq-eqb, ne-eqb, and-parts, cases-lt, both-ways}
+use Rattle.std.proofs.shelf.Lists.{ext-getD, getD-past, set-past, set-getD, getD-set-same, getD-set-other}
+use Rattle.std.proofs.shelf.Tests.{eqb-true, eq-eqb, ne-eqb, and-parts, lt-ltb, le-ltb, cases-eq, cases-lt, both-ways}
 use Rattle.owned.specs.Kept.{Full, alike, alike1}
 use Rattle.owned.specs.VarSets.{bitOf, bits, FirstDifference}
 
@@ -146,3 +146,45 @@ module _ (n k x : ℕ) where
 
   pub clear-empty : false ≡ getD (bits n k) x false → bits n k ≡ set (bits n k) x false
   clear-empty h = sym (ap (λ b. set (bits n k) x b) h ∙ set-getD (bits n k) x false)
+
+-- A set that is made one variable after the other: of those below i it has the ones that are chosen, and no other.
+pub record Chosen (n : ℕ) (f : ℕ → Bool) (i k : ℕ) : Type 0 where
+  pub each : (j : ℕ) → j < n → getD (bits n k) j false ≡ (ltb j i && f j)
+
+pub chosen-none : (n : ℕ) (f : ℕ → Bool) → Chosen n f 0 0
+chosen-none n f = record { each = λ j l. bits-zero n j ∙ sym (ap (λ b. b && f j) (le-ltb j 0 (omega arith))) }
+
+pub chosen-more : (n : ℕ) (f : ℕ → Bool) (i k r : ℕ) → i < n → Chosen n f i k → bits n r ≡ cond (f i) (set (bits n k) i true) (bits n k) → Chosen n f (i + 1) r
+chosen-more n f i k r l c e = record { each = λ j h. ap (λ bs. getD bs j false) e ∙ by j h (f i) refl }
+  where
+    within : i < length (bits n k)
+    within = omega (arith, length-bits n k)
+
+    -- the others are as they were
+    other : (j : ℕ) → (j ≡ i → ⊥) → (ltb j i && f j) ≡ (ltb j (i + 1) && f j)
+    other j ne =
+        elim (cases-lt j i) [
+          | inl h ↦ ap (λ b. b && f j) (lt-ltb j i h ∙ sym (lt-ltb j (i + 1) (omega arith)))
+          | inr h ↦ ap (λ b. b && f j) (le-ltb j i h ∙ sym (le-ltb j (i + 1) (above j h ne)))
+        ]
+      where
+        above : (j : ℕ) → i ≤ j → (j ≡ i → ⊥) → i + 1 ≤ j
+        above j h ne = elim (cases-lt i j) [ inl q ↦ omega (arith, q) | inr q ↦ absurd (ne (omega (arith, h, q))) ]
+
+    by : (j : ℕ) → j < n → (b : Bool) → f i ≡ b → getD (cond b (set (bits n k) i true) (bits n k)) j false ≡ (ltb j (i + 1) && f j)
+    by j h true t =
+        elim (cases-eq j i) [
+          | inl q ↦ ap (λ z. getD (set (bits n k) i true) z false) q ∙ getD-set-same (bits n k) i true false within ∙ sym (ap (λ z. ltb z (i + 1) && f z) q ∙ ap (λ b. b && f i) (lt-ltb i (i + 1) (omega arith)) ∙ t)
+          | inr ne ↦ getD-set-other (bits n k) i j true false ne ∙ c .each j h ∙ other j ne
+        ]
+    by j h false t =
+        elim (cases-eq j i) [
+          | inl q ↦ c .each j h ∙ ap (λ z. ltb z i && f z) q ∙ ap (λ b. b && f i) (le-ltb i i (omega arith)) ∙ sym (ap (λ z. ltb z (i + 1) && f z) q ∙ ap (λ b. b && f i) (lt-ltb i (i + 1) (omega arith)) ∙ t)
+          | inr ne ↦ c .each j h ∙ other j ne
+        ]
+
+pub chosen-all : (n : ℕ) (f : ℕ → Bool) (i k : ℕ) → i ≡ n → Chosen n f i k → (cs : List Bool) → length cs ≡ n → ((j : ℕ) → j < n → getD cs j false ≡ f j) → bits n k ≡ cs
+chosen-all n f i k e c cs m h =
+    ext-getD false (bits n k) cs (length-bits n k ∙ sym m) (λ j l.
+    let o : j < n = omega (arith, length-bits n k) in
+    c .each j o ∙ ap (λ b. b && f j) (lt-ltb j i (omega arith)) ∙ sym (h j o))

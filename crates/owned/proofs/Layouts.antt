@@ -12,7 +12,7 @@ use Rattle.std.proofs.shelf.Lists.{drop-drop}
 use Rattle.owned.specs.Program.{Sig, Proc, Prog}
 use Rattle.owned.specs.Rows.{rowS, rowP}
 use Rattle.owned.specs.Ends.{Placed}
-use Rattle.owned.specs.Views.{Seen, Sees, Found}
+use Rattle.owned.specs.Views.{Seen, SeenAt, Found}
 
 -- the word at a place where the rest begins with it
 pub word-at : (i : ℕ) (ws : List ℕ) (x : ℕ) (us : List ℕ) → drop i ws ≡ x ∷ us → (i < length ws) × (getD ws i 0 ≡ x) × (drop (i + 1) ws ≡ us)
@@ -52,7 +52,6 @@ placed-length ws (t ∷ ts) (p ∷ ps) h = ap suc (placed-length ws ts ps (h .1)
 
 -- the parts of a procedure that begins at t
 record Layout (ws : List ℕ) (t : ℕ) (q : Proc) (rest : List ℕ) : Type 0 where
-  pub here : t < length ws
   pub many : getD ws t 0 ≡ length (q .sig .kinds)
   pub kinds : take (length (q .sig .kinds)) (drop (t + 1) ws) ≡ q .sig .kinds
   pub next : t + 1 + length (q .sig .kinds) < length ws
@@ -71,54 +70,51 @@ layout ws t q rest h =
     let c = word-at (t + 1 + n) ws _ _ (sym (drop-drop n (t + 1) ws) ∙ b .1) in
     let d = front (drop (t + 1 + n + 1) ws) (q .sig .args) _ (c .2) in
     let e = word-at (t + 1 + n + 1 + m) ws _ _ (sym (drop-drop m (t + 1 + n + 1) ws) ∙ d .1) in
-    record { here = a .0; many = a .1; kinds = b .0; next = c .0; few = c .1; args = d .0; last = e .0; result = e .1; body = e .2 }
+    record { many = a .1; kinds = b .0; next = c .0; few = c .1; args = d .0; last = e .0; result = e .1; body = e .2 }
 
-module _ (ws ts : List ℕ) (f : ℕ) (l : f < length ts) (t k a : ℕ) (et : t ≡ getD ts f 0) (ek : k ≡ getD ws t 0) (ea : a ≡ getD ws (t + 1 + k) 0) where
-  lay : (g : Prog) → Placed ws ts g → (q : Proc) × (nth g f ≡ Some q) × ((rest : List ℕ) × Layout ws t q rest) × (k ≡ length (q .sig .kinds)) × (a ≡ length (q .sig .args))
-  lay g p =
-      let u = placed-at ws ts g f p l in
-      let y = layout ws t (u .0) (u .2 .0) (ap (λ z. drop z ws) et ∙ u .2 .1) in
-      let e : k ≡ length (u .0 .sig .kinds) = ek ∙ y .many in
-      (u .0, u .1, (u .2 .0, y), e, ea ∙ ap (λ z. getD ws (t + 1 + z) 0) e ∙ y .few)
+module _ (ws : List ℕ) (t k a : ℕ) (ek : k ≡ getD ws t 0) (ea : a ≡ getD ws (t + 1 + k) 0) where
+  lay : (q : Proc) (rest : List ℕ) → drop t ws ≡ rowP q rest → Layout ws t q rest × (k ≡ length (q .sig .kinds)) × (a ≡ length (q .sig .args))
+  lay q rest h =
+      let y = layout ws t q rest h in
+      let e : k ≡ length (q .sig .kinds) = ek ∙ y .many in
+      (y, e, ea ∙ ap (λ z. getD ws (t + 1 + z) 0) e ∙ y .few)
 
-  pub room-here : (g : Prog) × Placed ws ts g → t < length ws
-  room-here p = lay (p .0) (p .1) .2 .1 .here
+  module _ (p : (q : Proc) × (rest : List ℕ) × (drop t ws ≡ rowP q rest)) where
+    pub room-next : t + 1 + k < length ws
+    room-next = let u = lay (p .0) (p .1) (p .2) in omega (arith, u .0 .next, u .1)
 
-  pub room-next : (g : Prog) × Placed ws ts g → t + 1 + k < length ws
-  room-next p = let u = lay (p .0) (p .1) in omega (arith, u .2 .1 .next, u .3)
-
-  pub room-last : (g : Prog) × Placed ws ts g → t + 1 + k + 1 + a < length ws
-  room-last p = let u = lay (p .0) (p .1) in omega (arith, u .2 .1 .last, u .3, u .4)
+    pub room-last : t + 1 + k + 1 + a < length ws
+    room-last = let u = lay (p .0) (p .1) (p .2) in omega (arith, u .0 .last, u .1, u .2)
 
   -- what is cut out of the rows there is the procedure
-  pub found : (g : Prog) × Placed ws ts g → (m : Seen) → m .rows ≡ ws → m .starts ≡ ts → m .sig .kinds ≡ take (t + 1 + k - (t + 1)) (drop (t + 1) ws) → m .sig .args ≡ take (t + 1 + k + 1 + a - (t + 1 + k + 1)) (drop (t + 1 + k + 1) ws)
-      → m .sig .result ≡ getD ws (t + 1 + k + 1 + a) 0 → m .body ≡ t + 1 + k + 1 + a + 1 → Found ws ts f m
-  found p m e1 e2 e3 e4 e5 e6 =
+  pub seen-at : (ts : List ℕ) (m : Seen) → m .rows ≡ ws → m .starts ≡ ts → m .sig .kinds ≡ take (t + 1 + k - (t + 1)) (drop (t + 1) ws) → m .sig .args ≡ take (t + 1 + k + 1 + a - (t + 1 + k + 1)) (drop (t + 1 + k + 1) ws)
+      → m .sig .result ≡ getD ws (t + 1 + k + 1 + a) 0 → m .body ≡ t + 1 + k + 1 + a + 1 → SeenAt ws ts t m
+  seen-at ts m e1 e2 e3 e4 e5 e6 =
       record {
         rows = e1;
         starts = e2;
-        sees = λ g h. (let u = lay g h in let y = u .2 .1 in (
-          u .0,
-          u .1,
-          record {
-            sig = λ z. record { kinds = same-kinds g h z; args = same-args g h z; result = (e5 ∙ ap (λ v. getD ws v 0) (place g h) ∙ y .result) z };
-            body = (u .2 .0, (λ z. drop ((e6 ∙ ap (λ v. v + 1) (place g h)) z) (e1 z)) ∙ y .body);
-          },
-        ));
+        later = omega (arith, e6);
+        sees = λ q rest h. (let u = lay q rest h in
+            let c : t + 1 + k - (t + 1) ≡ length (q .sig .kinds) = omega (arith, u .1) in
+            let d : t + 1 + k + 1 + a - (t + 1 + k + 1) ≡ length (q .sig .args) = omega (arith, u .2) in
+            let b : t + 1 + k + 1 ≡ t + 1 + length (q .sig .kinds) + 1 = omega (arith, u .1) in
+            let l : t + 1 + k + 1 + a ≡ t + 1 + length (q .sig .kinds) + 1 + length (q .sig .args) = omega (arith, u .1, u .2) in (
+              (λ z. record {
+                kinds = (e3 ∙ ap (λ v. take v (drop (t + 1) ws)) c ∙ u .0 .kinds) z;
+                args = (e4 ∙ (λ v. take (d v) (drop (b v) ws)) ∙ u .0 .args) z;
+                result = (e5 ∙ ap (λ v. getD ws v 0) l ∙ u .0 .result) z;
+              }),
+              ap (λ v. drop v ws) (e6 ∙ ap (λ v. v + 1) l) ∙ u .0 .body,
+            ));
       }
-    where
-      place : (g : Prog) (h : Placed ws ts g) → t + 1 + k + 1 + a ≡ t + 1 + length (lay g h .0 .sig .kinds) + 1 + length (lay g h .0 .sig .args)
-      place g h = let u = lay g h in omega (arith, u .3, u .4)
 
-      same-kinds : (g : Prog) (h : Placed ws ts g) → m .sig .kinds ≡ lay g h .0 .sig .kinds
-      same-kinds g h =
-          let u = lay g h in
-          let c : t + 1 + k - (t + 1) ≡ length (u .0 .sig .kinds) = omega (arith, u .3) in
-          e3 ∙ ap (λ z. take z (drop (t + 1) ws)) c ∙ u .2 .1 .kinds
-
-      same-args : (g : Prog) (h : Placed ws ts g) → m .sig .args ≡ lay g h .0 .sig .args
-      same-args g h =
-          let u = lay g h in
-          let c : t + 1 + k + 1 + a - (t + 1 + k + 1) ≡ length (u .0 .sig .args) = omega (arith, u .4) in
-          let d : t + 1 + k + 1 ≡ t + 1 + length (u .0 .sig .kinds) + 1 = omega (arith, u .3) in
-          e4 ∙ (λ z. take (c z) (drop (d z) ws)) ∙ u .2 .1 .args
+-- by the table
+pub found : (ws ts : List ℕ) (f : ℕ) (m : Seen) → f < length ts → SeenAt ws ts (getD ts f 0) m → Found ws ts f m
+found ws ts f m l v =
+    record {
+      rows = v .rows;
+      starts = v .starts;
+      sees = λ g h. (let u = placed-at ws ts g f h l in
+          let w = v .sees (u .0) (u .2 .0) (u .2 .1) in
+          (u .0, u .1, record { sig = w .0; body = (u .2 .0, ap (λ us. drop (m .body) us) (v .rows) ∙ w .1) }));
+    }

@@ -38,7 +38,7 @@ read-E e rest =
     let v = viewE e in
     (v, ap (λ t. nodeOf (rowE t ++ rest)) (sym (v .same)) ∙ ap nodeOf (row-makeE (v .head) (v .operands) rest) ∙ node-complete (v .head) (rowT rowE (nodeShape (v .head) .exprs) (v .operands) rest))
 
-see-E : (us vs : List ℕ) (h : Expression) → nodeOf us ≡ Some (h, vs) → (e : E) (rest : List ℕ) → us ≡ rowE e ++ rest → (es : Tuple E (nodeShape h .exprs)) × (makeE h es ≡ e) × (vs ≡ rowT rowE (nodeShape h .exprs) es rest)
+pub see-E : (us vs : List ℕ) (h : Expression) → nodeOf us ≡ Some (h, vs) → (e : E) (rest : List ℕ) → us ≡ rowE e ++ rest → (es : Tuple E (nodeShape h .exprs)) × (makeE h es ≡ e) × (vs ≡ rowT rowE (nodeShape h .exprs) es rest)
 see-E us vs h k e rest q =
     let (v, r) = read-E e rest in
     let (a, b) = hit-head h (v .head) vs (rowT rowE (nodeShape (v .head) .exprs) (v .operands) rest) (sym k ∙ ap nodeOf q ∙ r) in
@@ -111,7 +111,7 @@ read-S s rest =
     let v = view s in
     (v, ap (λ t. headOf (rowS t ++ rest)) (sym (v .same)) ∙ ap headOf (row-make (v .head) (v .parts) rest) ∙ head-complete (v .head) (rowParts (v .head) (v .parts) rest))
 
-see-S : (us vs : List ℕ) (h : Statement) → headOf us ≡ Some (h, vs) → (s : S) (rest : List ℕ) → us ≡ rowS s ++ rest → (v : Parts h) × (make h v ≡ s) × (vs ≡ rowParts h v rest)
+pub see-S : (us vs : List ℕ) (h : Statement) → headOf us ≡ Some (h, vs) → (s : S) (rest : List ℕ) → us ≡ rowS s ++ rest → (v : Parts h) × (make h v ≡ s) × (vs ≡ rowParts h v rest)
 see-S us vs h k s rest e =
     let (v, r) = read-S s rest in
     let (a, b) = hit-head h (v .head) vs (rowParts (v .head) (v .parts) rest) (sym k ∙ ap headOf e ∙ r) in

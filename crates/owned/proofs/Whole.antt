@@ -1,31 +1,30 @@
 -- Whole procedures and programs: what is full at the start, and each procedure's verdict joined to the program's.
 -- The loop over procedures says of those left what the definition says of all.
 use mathlib.Core.Path.{_≡_, refl, sym, ap, subst, _∙_}
-use mathlib.Core.Bool.{Bool, true, false, _&&_, _||_, cond}
-use mathlib.Core.List.{List, [], _∷_, _++_}
-use mathlib.Core.Logic.{inl, inr}
+use mathlib.Core.Bool.{Bool, true, false, _&&_, _||_}
+use mathlib.Core.List.{List, [], _∷_}
 use Prim.Native.Nat.{ℕ, zero, suc, _+_, _≤_, _<_}
 use native.Mathlib.Omega.{arith}
-use lib.ListN.{length, drop, getD, set}
+use lib.ListN.{length, drop, getD}
 use lib.Dec.{ltb, eqb, leb, T, leb→le}
 use Rattle.std.specs.declared.option.Option.{Option}
 use Rattle.std.specs.declared.option.Option.the-variants.{Some, None}
 use Rattle.std.specs.Finite.{nth}
-use Rattle.std.proofs.shelf.Lists.{ext-getD, drop-all, getD-set-same, getD-set-other, length-set}
-use Rattle.std.proofs.shelf.Tests.{le-leb, lt-leb, lt-ltb, le-ltb, eq-eqb, ne-eqb, cases-eq, cases-lt}
+use Rattle.std.proofs.shelf.Lists.{drop-all}
+use Rattle.std.proofs.shelf.Tests.{le-leb, lt-leb}
 use Rattle.owned.specs.declared.varset.VarSet.{VarSet}
-use Rattle.owned.specs.Program.{S, Sig, Proc, Prog, kind}
-use Rattle.owned.specs.Rows.{rowS, okSig, okP, okPs}
+use Rattle.owned.specs.Program.{S, Sig, Proc, Prog}
+use Rattle.owned.specs.Rows.{okP, okPs}
 use Rattle.owned.specs.Kept.{Full, isFull, isNum, there, keeps, begins, ends-well, kept1, keptAll, starts}
 use Rattle.owned.specs.Ends.{Placed}
 use Rattle.owned.specs.Views.{Seen, fullOf, Fit, ThereS, SaysS, Sees, Found, SaysKept, Fine}
 use Rattle.owned.proofs.Chains.{T-and}
 use Rattle.owned.proofs.Programs.{sig-off, ok-off}
-use Rattle.owned.proofs.Bits.{length-bits, bits-zero}
+use Rattle.owned.proofs.Bits.{Chosen, chosen-all}
 use Rattle.owned.proofs.Layouts.{placed-length}
 
 -- full at the start
-abbrev startsFull : Sig → ℕ → Bool
+abbrev pub startsFull : Sig → ℕ → Bool
 startsFull p x = ltb x (length (p .args)) || isNum p x
 
 begins-get : (i : ℕ) (p : Sig) (ks : List ℕ) (j : ℕ) → j < length ks → getD (begins i p ks) j false ≡ (ltb (i + j) (length (p .args)) || eqb (getD ks j 0) 0)
@@ -38,47 +37,14 @@ length-begins i p [] = refl
 length-begins i p (k ∷ ks) = ap suc (length-begins (i + 1) p ks)
 
 -- of the variables below i those that start full, and none of the others
-pub record Begun (m : Seen) (i : ℕ) (k : VarSet) : Type 0 where
-  pub each : (j : ℕ) → j < length (m .sig .kinds) → getD (fullOf m k) j false ≡ (ltb j i && startsFull (m .sig) j)
-
-pub begun-none : (m : Seen) (k : VarSet) → k .0 ≡ 0 → Begun m 0 k
-begun-none m k e = record { each = λ j l. rw e (bits-zero (length (m .sig .kinds)) j ∙ sym (ap (λ b. b && startsFull (m .sig) j) (le-ltb j 0 (omega arith)))) }
-
-pub begun-more : (m : Seen) (i : ℕ) (k r : VarSet) → i < length (m .sig .kinds) → Begun m i k → fullOf m r ≡ cond (startsFull (m .sig) i) (set (fullOf m k) i true) (fullOf m k) → Begun m (i + 1) r
-begun-more m i k r l f e = record { each = λ j h. ap (λ c. getD c j false) e ∙ by j h (startsFull (m .sig) i) refl }
-  where
-    within : i < length (fullOf m k)
-    within = omega (arith, length-bits (length (m .sig .kinds)) (k .0))
-
-    -- the others are as they were
-    other : (j : ℕ) → (j ≡ i → ⊥) → (ltb j i && startsFull (m .sig) j) ≡ (ltb j (i + 1) && startsFull (m .sig) j)
-    other j ne =
-        elim (cases-lt j i) [
-          | inl h ↦ ap (λ b. b && startsFull (m .sig) j) (lt-ltb j i h ∙ sym (lt-ltb j (i + 1) (omega arith)))
-          | inr h ↦ ap (λ b. b && startsFull (m .sig) j) (le-ltb j i h ∙ sym (le-ltb j (i + 1) (above j h ne)))
-        ]
-      where
-        above : (j : ℕ) → i ≤ j → (j ≡ i → ⊥) → i + 1 ≤ j
-        above j h ne = elim (cases-lt i j) [ inl k ↦ omega (arith, k) | inr k ↦ absurd (ne (omega (arith, h, k))) ]
-
-    by : (j : ℕ) → j < length (m .sig .kinds) → (b : Bool) → startsFull (m .sig) i ≡ b → getD (cond b (set (fullOf m k) i true) (fullOf m k)) j false ≡ (ltb j (i + 1) && startsFull (m .sig) j)
-    by j h true t =
-        elim (cases-eq j i) [
-          | inl q ↦ ap (λ z. getD (set (fullOf m k) i true) z false) q ∙ getD-set-same (fullOf m k) i true false within ∙ sym (ap (λ z. ltb z (i + 1) && startsFull (m .sig) z) q ∙ ap (λ b. b && startsFull (m .sig) i) (lt-ltb i (i + 1) (omega arith)) ∙ t)
-          | inr ne ↦ getD-set-other (fullOf m k) i j true false ne ∙ f .each j h ∙ other j ne
-        ]
-    by j h false t =
-        elim (cases-eq j i) [
-          | inl q ↦ f .each j h ∙ ap (λ z. ltb z i && startsFull (m .sig) z) q ∙ ap (λ b. b && startsFull (m .sig) i) (le-ltb i i (omega arith)) ∙ sym (ap (λ z. ltb z (i + 1) && startsFull (m .sig) z) q ∙ ap (λ b. b && startsFull (m .sig) i) (lt-ltb i (i + 1) (omega arith)) ∙ t)
-          | inr ne ↦ f .each j h ∙ other j ne
-        ]
+abbrev pub Begun : Seen → ℕ → VarSet → Type 0
+Begun m i k = Chosen (length (m .sig .kinds)) (λ x. startsFull (m .sig) x) i (k .0)
 
 pub begun-all : (m : Seen) (k : VarSet) (n : ℕ) → n ≡ length (m .sig .kinds) → Begun m n k → fullOf m k ≡ begins 0 (m .sig) (m .sig .kinds)
 begun-all m k n e f =
-    ext-getD false (fullOf m k) (begins 0 (m .sig) (m .sig .kinds)) (length-bits (length (m .sig .kinds)) (k .0) ∙ sym (length-begins 0 (m .sig) (m .sig .kinds))) (λ j h.
-    let l : j < length (m .sig .kinds) = omega (arith, length-bits (length (m .sig .kinds)) (k .0)) in
+    chosen-all (length (m .sig .kinds)) (λ x. startsFull (m .sig) x) n (k .0) e f (begins 0 (m .sig) (m .sig .kinds)) (length-begins 0 (m .sig) (m .sig .kinds)) (λ j l.
     let z : 0 + j ≡ j = omega arith in
-    f .each j l ∙ ap (λ b. b && startsFull (m .sig) j) (lt-ltb j n (omega arith)) ∙ ap (λ q. ltb q (length (m .sig .args)) || eqb (getD (m .sig .kinds) j 0) 0) (sym z) ∙ sym (begins-get 0 (m .sig) (m .sig .kinds) j l))
+    begins-get 0 (m .sig) (m .sig .kinds) j l ∙ ap (λ q. ltb q (length (m .sig .args)) || eqb (getD (m .sig .kinds) j 0) 0) z)
 
 -- procedures
 module _ (m : Seen) where

@@ -13,7 +13,7 @@ use Rattle.owned.specs.declared.varset.VarSet.{VarSet}
 use Rattle.owned.specs.declared.decode.Transfer.{Transfer}
 use Rattle.owned.specs.declared.decode.Transfer.the-variants.{Box, Unbox, Look, Fill, Move}
 use Rattle.owned.specs.Program.{S, E, Arg, Sig, Proc, Prog, kind}
-use Rattle.owned.specs.Rows.{rowE, rowS, rowAs, okPs}
+use Rattle.owned.specs.Rows.{rowE, rowS, rowAs, rowP, okPs}
 use Rattle.owned.specs.Kept.{Full, isFull, isNum, there, takes, gives, after-give, numbers, keeps, again, lentAway, hands, kept1}
 use Rattle.owned.specs.Ends.{Placed}
 use Rattle.owned.specs.VarSets.{bits}
@@ -86,6 +86,13 @@ leaves Move p c x y = set (after-give p c y) x true
 pub record Sees (m : Seen) (q : Proc) : Type 0 where
   pub sig : m .sig ≡ q .sig
   pub body : (rest : List ℕ) × (drop (m .body) (m .rows) ≡ rowS (q .body) ++ rest)
+
+-- the procedure that begins at t is seen, to its end
+pub record SeenAt (ws ts : List ℕ) (t : ℕ) (m : Seen) : Type 0 where
+  pub rows : m .rows ≡ ws
+  pub starts : m .starts ≡ ts
+  pub later : t < m .body
+  pub sees : (q : Proc) (rest : List ℕ) → drop t ws ≡ rowP q rest → (m .sig ≡ q .sig) × (drop (m .body) ws ≡ rowS (q .body) ++ rest)
 
 -- the procedure with number f is seen
 pub record Found (ws ts : List ℕ) (f : ℕ) (m : Seen) : Type 0 where

@@ -14,7 +14,7 @@ pub struct Taken {
 }
 
 // Links so many cells, all free, in order. Gives the head of the list.
-pub(crate) fn link_all(links: &mut [u32], cells: u32) -> u32
+pub fn link_all(links: &mut [u32], cells: u32) -> u32
     requires { ⌜ cells ≤ length (now links) ⌝ }
     ensures list { λ r. ⌜ FreeList (now (links .exit)) r (replicate cells free) ⌝ }
     ensures past { λ _. ⌜ drop cells (now (links .exit)) ≡ drop cells (now (links .entry)) ⌝ }
@@ -26,7 +26,7 @@ pub(crate) fn link_all(links: &mut [u32], cells: u32) -> u32
 }
 
 // The first of so many cells that is free, if any is.
-pub(crate) fn take_first(links: &[u32], head: u32, cells: u32) -> Option<Taken>
+pub fn take_first(links: &[u32], head: u32, cells: u32) -> Option<Taken>
     requires { ⌜ ((cs : List Cell) × FreeList (now links) head cs × (length cs ≡ cells)) ⌝ }
     ensures { λ r. ⌜ ((cs : List Cell) → FreeList (now (links .entry)) head cs → length cs ≡ cells → TakenFirst (now (links .entry)) cs r) ⌝ }
 {
@@ -41,7 +41,7 @@ pub(crate) fn take_first(links: &[u32], head: u32, cells: u32) -> Option<Taken>
 }
 
 // Puts a cell that is in use back into its place in the free list. Gives the list's head.
-pub(crate) fn give_back(links: &mut [u32], head: u32, cell: CellIndex) -> u32
+pub fn give_back(links: &mut [u32], head: u32, cell: CellIndex) -> u32
     requires { ⌜ ((cs : List Cell) × FreeList (now links) head cs × InUse cs (cell .0)) ⌝ }
     ensures { λ r. ⌜ ((cs : List Cell) → FreeList (now (links .entry)) head cs → InUse cs (cell .0) → GivenBack (now (links .entry)) (now (links .exit)) r cs (cell .0)) ⌝ }
 {

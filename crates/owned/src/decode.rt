@@ -115,7 +115,7 @@ impl Statement {
         }
     }
 
-    fn shape(self) -> Shape
+    pub fn shape(self) -> Shape
         ensures { λ r. ⌜ r ≡ headShape self ⌝ }
     {
         match self {
@@ -140,7 +140,7 @@ pub(crate) fn word(rows: &[u32], at: usize) -> u32
 }
 
 // The expression that begins at a place.
-pub(crate) fn expression_at(rows: &[u32], at: usize) -> Option<Expression>
+pub fn expression_at(rows: &[u32], at: usize) -> Option<Expression>
     requires { ⌜ length (now rows) ≤ 16384 ⌝ ∗ ⌜ at ≤ length (now rows) ⌝ }
     ensures { λ r. ⌜ NodeAt (now (rows .entry)) at r ⌝ }
 {
@@ -153,7 +153,7 @@ pub(crate) fn expression_at(rows: &[u32], at: usize) -> Option<Expression>
 }
 
 // The statement that begins at a place.
-pub(crate) fn statement_at(rows: &[u32], at: usize) -> Option<Statement>
+pub fn statement_at(rows: &[u32], at: usize) -> Option<Statement>
     requires { ⌜ length (now rows) ≤ 16384 ⌝ ∗ ⌜ at ≤ length (now rows) ⌝ }
     ensures { λ r. ⌜ HeadAt (now (rows .entry)) at r ⌝ }
 {

@@ -4,12 +4,12 @@ ghost use lib.Dec.{leb};
 ghost use lib.ListN.{length};
 ghost use Rattle.owned.specs.Says.{JudgedPost};
 
-mod cells;
-mod decode;
-mod names;
-mod procs;
+pub mod cells;
+pub mod decode;
+pub mod names;
+pub mod procs;
 mod rules;
-mod varset;
+pub mod varset;
 
 pub use procs::MAX_WORDS;
 use procs::procedures;

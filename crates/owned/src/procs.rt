@@ -1,12 +1,14 @@
 ghost use mathlib.Core.Path.{_≡_};
-ghost use Prim.Native.Nat.{_+_, _≤_, _<_};
+ghost use mathlib.Core.List.{List};
+ghost use Prim.Native.Nat.{ℕ, _+_, _≤_, _<_};
 ghost use lib.ListN.{length, drop, getD};
 ghost use lib.Dec.{eqb, ltb};
 ghost use Rattle.owned.specs.Decode.{many, below1, readSig, readP};
 ghost use Rattle.owned.specs.Ends.{Ended, WordUpTo, Tabled, Placed};
 ghost use Rattle.owned.specs.Kept.{there};
-ghost use Rattle.owned.specs.Program.{Prog, kind, isLent};
-ghost use Rattle.owned.specs.Views.{seen, Found};
+ghost use Rattle.owned.specs.Program.{Proc, Prog, kind, isLent};
+ghost use Rattle.owned.specs.Rows.{rowP};
+ghost use Rattle.owned.specs.Views.{seen, SeenAt, Found};
 use crate::decode::statements_end;
 use crate::names::Kind;
 use crate::names::Var;
@@ -96,13 +98,13 @@ pub(crate) fn procedures(rows: &[u32], starts: &mut [u32]) -> Option<usize>
 
 // A procedure in the rows, among the others.
 #[derive(Drop)]
-pub(crate) struct Procedure<'a> {
-    pub(crate) rows: &'a [u32],
-    pub(crate) starts: &'a [u32],
-    pub(crate) kinds: &'a [u32],
-    pub(crate) args: &'a [u32],
-    pub(crate) result: Var,
-    pub(crate) body: usize,
+pub struct Procedure<'a> {
+    pub rows: &'a [u32],
+    pub starts: &'a [u32],
+    pub kinds: &'a [u32],
+    pub args: &'a [u32],
+    pub result: Var,
+    pub body: usize,
 }
 
 impl<'a> Procedure<'a> {
@@ -111,7 +113,14 @@ impl<'a> Procedure<'a> {
         requires { ⌜ f < length (now starts) ⌝ ∗ ⌜ length (now rows) ≤ 16384 ⌝ ∗ ⌜ ((g : Prog) × Placed (now rows) (now starts) g) ⌝ }
         ensures { λ r. ⌜ Found (now (rows .entry)) (now (starts .entry)) f (seen r) ⌝ }
     {
-        let at = starts[f] as usize;
+        Procedure::at(rows, starts, starts[f] as usize)
+    }
+
+    // The procedure that begins at a place.
+    pub fn at(rows: &'a [u32], starts: &'a [u32], at: usize) -> Procedure<'a>
+        requires { ⌜ length (now rows) ≤ 16384 ⌝ ∗ ⌜ at < length (now rows) ⌝ ∗ ⌜ ((p : Proc) × (rest : List ℕ) × (drop at (now rows) ≡ rowP p rest)) ⌝ }
+        ensures { λ r. ⌜ SeenAt (now (rows .entry)) (now (starts .entry)) at (seen r) ⌝ }
+    {
         let middle = at + 1 + rows[at] as usize;
         let last = middle + 1 + rows[middle] as usize;
         Procedure {
@@ -132,7 +141,7 @@ impl<'a> Procedure<'a> {
     }
 
     // A variable's kind; of one that is not there, 0.
-    pub(crate) fn kind(&self, x: Var) -> Kind
+    pub fn kind(&self, x: Var) -> Kind
         ensures { λ r. ⌜ r .0 ≡ kind (seen (now (self .entry)) .sig) (x .0) ⌝ }
     {
         if self.has(x) {
@@ -150,7 +159,7 @@ impl<'a> Procedure<'a> {
         if i < self.args.len() { self.args[i] } else { 0 }
     }
 
-    pub(crate) fn is_lent(&self, x: Var) -> bool
+    pub fn is_lent(&self, x: Var) -> bool
         ensures { λ r. ⌜ r ≡ isLent (seen (now (self .entry)) .sig) (x .0) ⌝ }
     {
         self.mark(x) == LENT

@@ -17,7 +17,7 @@ impl VarSet {
         (self.0 >> x.0) & 1 == 1
     }
 
-    pub(crate) fn with(self, x: Var) -> VarSet
+    pub fn with(self, x: Var) -> VarSet
         requires { ⌜ x .0 < 32 ⌝ }
         ensures { λ r. ⌜ r .0 ≡ bitOr (self .0) (2 ^ x .0) ⌝ }
     {

@@ -1,22 +1,9 @@
-use mathlib.Core.Path.{refl}
-use native.Mathlib.Omega.{arith}
-use Rattle.owned.proofs.Layouts.{room-here, room-next, room-last, found}
+use Rattle.owned.specs.Views.{seen}
+use Rattle.owned.proofs.Layouts.{word-at, placed-at, found}
 use Rattle.owned.proofs.procs.Procedure.find.Needs as need
 
-pub index-rows-at : need.index-rows-at
-index-rows-at c = room-here (c .args .rows .now) (c .args .starts .now) (c .args .f) (c .pre .0) _ _ _ refl refl refl (c .pre .1 .1)
-
-pub index-rows-middle : need.index-rows-middle
-index-rows-middle c = room-next (c .args .rows .now) (c .args .starts .now) (c .args .f) (c .pre .0) _ _ _ refl refl refl (c .pre .1 .1)
-
-pub part-result-end : need.part-result-end
-part-result-end c = omega (arith, room-next (c .args .rows .now) (c .args .starts .now) (c .args .f) (c .pre .0) _ _ _ refl refl refl (c .pre .1 .1))
-
-pub part-result-end-2 : need.part-result-end-2
-part-result-end-2 c = omega (arith, room-last (c .args .rows .now) (c .args .starts .now) (c .args .f) (c .pre .0) _ _ _ refl refl refl (c .pre .1 .1))
-
-pub index-rows-last : need.index-rows-last
-index-rows-last c = room-last (c .args .rows .now) (c .args .starts .now) (c .args .f) (c .pre .0) _ _ _ refl refl refl (c .pre .1 .1)
+pub at-requires : need.at-requires
+at-requires c κs = let u = placed-at (c .args .rows .now) (c .args .starts .now) (c .pre .1 .1 .0) (c .args .f) (c .pre .1 .1 .1) (c .pre .0) in (c .pre .1 .0, (word-at _ (c .args .rows .now) _ _ (u .2 .1) .0, (u .0, u .2 .0, u .2 .1)))
 
 pub returns : need.returns
-returns c = found (c .args .rows .now) (c .args .starts .now) (c .args .f) (c .pre .0) _ _ _ refl refl refl (c .pre .1 .1) _ refl refl refl refl refl refl
+returns c = found (c .args .rows .now) (c .args .starts .now) (c .args .f) (seen (c .at .result)) (c .pre .0) (c .at .ensures)
