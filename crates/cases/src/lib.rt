@@ -1,3 +1,5 @@
+#![tactic(auto)]
+
 // Tests of the libraries through their public functions.
 #[cfg(test)]
 mod limits;

@@ -1,3 +1,5 @@
+#![tactic(auto)]
+
 use anyhow::anyhow;
 use input::Numbers;
 use interpreter::{Ran, go};
@@ -66,7 +68,7 @@ fn main(rt: HostRuntime) -> anyhow::Result<()> {
         let limits = numbers(&rt, limits)?;
         let program = numbers(&rt, rows)?;
         let says = ending(&rt, limits.as_slice(), program.as_slice())?;
-        if says == expected {
+        if says.as_str() == expected {
             met = met.saturating_add(1);
             println!(rt; "{label}")?;
         } else {

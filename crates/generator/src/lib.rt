@@ -1,3 +1,5 @@
+#![tactic(auto)]
+
 mod author;
 mod calls;
 pub mod damage;

@@ -1,3 +1,5 @@
+#![tactic(auto)]
+
 ghost use Rattle.std.specs.Prelude.{◌≡◌, ◌+◌, ◌≤◌, [], length, replicate, IfOk, Some, vec_len, OnOk};
 ghost use Rattle.input.specs.Scan.{is_white_space, grown, finished, noted, Kept, Advanced, Pushed, Taken, Ended};
 

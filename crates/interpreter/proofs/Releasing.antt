@@ -4,7 +4,7 @@ use Rattle.std.proofs.lemmas.List.{get_or-set_same, get_or-set_other}
 use Rattle.std.proofs.lemmas.Bool.{cases_eq}
 use Rattle.owned.specs.Runs.{Val, n, at, nothing, Cell, free, holds, first}
 use Rattle.owned.specs.FreeList.{FreeList, InUse, GivenBack, FirstFree}
-use Rattle.owned.specs.declared.Taken.{Taken}
+use Rattle.owned.specs.declared.cells.Taken.{Taken}
 use Rattle.owned.proofs.Places.{none_some}
 use Rattle.interpreter.specs.Memory.{Memory, with_list, set_content}
 use Rattle.interpreter.specs.Represents.{Means, Heap}

@@ -1,3 +1,5 @@
+#![tactic(auto)]
+
 use input::read_numbers;
 use owned::{Judged, MAX_WORDS, judge};
 

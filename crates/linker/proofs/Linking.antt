@@ -14,7 +14,7 @@ use Rattle.owned.proofs.Reading.{see_s}
 use Rattle.linker.specs.Links.{StandsS, Room, part_rows, Enters, Agree, Within, Marked, StandsMarked, LinkedTo}
 use Rattle.linker.proofs.Positions.{agree_within, some_words, expr_frame, expr_of_frame, at_frame}
 use Rattle.linker.proofs.Changes.{follow_at, inner_at, other_at, agree_trans, within_refl, within_both, within_more, wrote_follow, wrote_inner, wrote_other, room_stays, marked_frame, marked_expr}
-use Rattle.linker.proofs.Stands.{past}
+use Rattle.linker.proofs.Stands.{inside, past}
 
 pub stands : (c : Code) (i : ℕ) → StandsMarked c i → StandsS c.rows i
 stands c i t = (t.0, t.1, t.2)

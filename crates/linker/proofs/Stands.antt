@@ -1,6 +1,6 @@
 -- What stands at a place of the rows: where it ends, where it is entered, where its parts begin.
 -- The head that is read there is that of every expression or statement that could be meant.
-use Rattle.std.proofs.Common.{◌≡◌, ℕ, zero, suc, ◌+◌, ◌*◌, ◌<◌, ◌≤◌, List, ◌++◌, length, drop, Some, sym, refl, ap, ◌∙◌, subst, append_assoc, arith, length-append, length-drop}
+use Rattle.std.proofs.Common.{[], None, ◌≡◌, ℕ, zero, suc, ◌+◌, ◌*◌, ◌<◌, ◌≤◌, List, ◌++◌, length, drop, Some, sym, refl, ap, ◌∙◌, subst, append_assoc, arith, length-append, length-drop}
 use lib.Seq.{drop-append_seam}
 use Rattle.std.proofs.lemmas.List.{drop-drop}
 use Rattle.owned.specs.declared.decode.Operator.{Operator}

@@ -1,3 +1,5 @@
+#![tactic(auto)]
+
 ghost use Rattle.std.specs.Prelude.{◌≡◌, ℕ, ◌+◌, ◌<◌, ◌≤◌, true, not, ◌&&◌, length, set, if◌then◌else◌, Some, slice_set};
 ghost use Rattle.owned.specs.Program.{Prog};
 ghost use Rattle.owned.specs.Runs.{stays};

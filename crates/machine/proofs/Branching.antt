@@ -1,17 +1,16 @@
 -- Going on in the program: past a statement, and to a part of an `if` or a `while`.
-use Rattle.std.proofs.Common.{◌≡◌, ℕ, zero, suc, ◌+◌, ◌-◌, ◌<◌, ◌≤◌, true, cond, eqb, List, [], ◌∷◌, ◌++◌, length, get_or, drop, Ok, Err, sym, refl, ap, ◌∙◌, subst, arith}
+use Rattle.std.proofs.Common.{◌≡◌, ℕ, suc, ◌+◌, ◌-◌, ◌<◌, cond, eqb, List, ◌∷◌, ◌++◌, length, get_or, drop, Ok, Err, sym, refl, ap, ◌∙◌, arith}
 use Rattle.std.proofs.lemmas.Bool.{eq-eqb, ne_eqb}
 use Rattle.owned.specs.Program.{E, S, Sig, Prog}
-use Rattle.owned.specs.Rows.{row_e, row_s}
+use Rattle.owned.specs.Rows.{row_s}
 use Rattle.owned.specs.Runs.{St, fault, spent, May, ok, bad, value, with_left}
-use Rattle.owned.specs.Machine.{Frame, Mach, going, stopped, push, num_m, turn_m}
-use Rattle.owned.specs.Code.{Here, At, Pends}
+use Rattle.owned.specs.Machine.{Frame, Mach, stopped, push, num_m, turn_m}
+use Rattle.owned.specs.Code.{Here}
 use Rattle.machine.specs.declared.machine.Halt.TheVariants.{Spent}
 use Rattle.machine.specs.Memory.{Control, Memory, go_to, with_turns}
-use Rattle.machine.specs.Represents.{Singles, State, Context, Represents}
+use Rattle.machine.specs.Represents.{State, Context, Represents}
 use Rattle.machine.specs.Operations.{Evaluates, CanEvaluate, Evaluated}
-use Rattle.owned.specs.Strict.{strict_s}
-use Rattle.machine.specs.Steps.{Going, After, Ready, CanStep, Stepped, Kept, if_s, while_s}
+use Rattle.machine.specs.Steps.{Ready, CanStep, Stepped, Kept, if_s, while_s}
 use Rattle.machine.proofs.Evaluating.{can}
 use Rattle.machine.proofs.Pending.{entered_pends, push_singles, stands, first_word, expr_next}
 

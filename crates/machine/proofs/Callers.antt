@@ -1,11 +1,9 @@
 -- Callers in their frames: they stay as they are while only words above them change.
-use Rattle.std.proofs.Common.{◌≡◌, ℕ, zero, suc, ◌+◌, ◌-◌, ◌<◌, ◌≤◌, List, [], ◌∷◌, length, get_or, take, set, sym, refl, ap, ◌∙◌, subst, arith, length-set, length-take, get_or-take}
+use Rattle.std.proofs.Common.{◌≡◌, ℕ, ◌+◌, ◌<◌, ◌≤◌, List, [], ◌∷◌, length, get_or, set, ◌∙◌, arith, length-set}
 use Rattle.std.proofs.lemmas.List.{get_or-set_same, get_or-set_other}
 use Rattle.owned.specs.Machine.{Frame}
 use Rattle.owned.specs.Code.{Code}
-use Rattle.machine.specs.Memory.{Control, Memory}
-use Rattle.machine.specs.Represents.{Vars, FrameAt, Frames}
-use Rattle.machine.specs.Calls.{suspended}
+use Rattle.machine.specs.Represents.{FrameAt, Frames}
 use Rattle.machine.proofs.Words.{vars_same}
 
 pub frame_same : (c : Code) (ws us : List ℕ) (b : ℕ) (f : Frame) → b + 40 ≤ length us → ((i : ℕ) → i < b + 40 → get_or us i 0 ≡ get_or ws i 0) → FrameAt c ws b f → FrameAt c us b f

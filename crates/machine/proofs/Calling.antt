@@ -1,5 +1,5 @@
 -- A call: its arguments are in the next frame, the caller's frame says how to come back, and the procedure is entered.
-use Rattle.std.proofs.Common.{◌≡◌, ℕ, zero, suc, ◌+◌, ◌-◌, ◌*◌, ◌^◌, ◌<◌, ◌≤◌, Bool, true, false, cond, eqb, List, [], ◌∷◌, ◌++◌, length, get_or, take, drop, Some, None, Ok, Err, Option, sym, refl, ap, ◌∙◌, subst, arith, length-take, get_or-take}
+use Rattle.std.proofs.Common.{◌≡◌, ℕ, zero, suc, ◌+◌, ◌-◌, ◌*◌, ◌<◌, ◌≤◌, Bool, true, false, cond, eqb, List, [], ◌∷◌, ◌++◌, length, get_or, take, drop, Some, None, Ok, Err, Option, sym, refl, ap, ◌∙◌, subst, arith, length-take, get_or-take}
 use Rattle.std.specs.List.{slice_get}
 use Rattle.std.proofs.lemmas.Bool.{eqb-true}
 use Rattle.owned.specs.Program.{Arg, S, Sig, Proc, Prog, kind}
@@ -8,7 +8,7 @@ use Rattle.owned.specs.Runs.{first_free, Val, St, fault, spent, deep, Took, took
 use Rattle.owned.specs.Machine.{Frame, Mach, going, stopped, push, turn_m, hand_m, enter_m}
 use Rattle.owned.specs.Code.{ProcAt}
 use Rattle.machine.specs.declared.machine.Halt.TheVariants.{Spent, Deep}
-use Rattle.machine.specs.Memory.{Control, Memory, set_word, with_frames, with_turns, entered}
+use Rattle.machine.specs.Memory.{Control, Memory, with_turns, entered}
 use Rattle.machine.specs.Represents.{Vars, Heap, Shown, State, FrameAt, Frames, Context, Represents}
 use Rattle.owned.specs.Strict.{pass_one, pass, enters, strict_s}
 use Rattle.machine.specs.Steps.{Going, Ready, CanStep, Stepped, Kept, call_s}

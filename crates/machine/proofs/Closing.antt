@@ -1,5 +1,5 @@
 -- The end of a procedure: the bits of a word say which variables hold a box that is given back, one after the other.
-use Rattle.std.proofs.Common.{◌≡◌, ℕ, zero, suc, ◌+◌, ◌-◌, ◌*◌, ◌/◌, ◌%◌, ◌<◌, ◌≤◌, Bool, true, false, cond, not, ◌&&◌, eqb, ◌⊎◌, List, [], ◌∷◌, length, get_or, drop, set, Some, None, Option, sym, refl, ap, ◌∙◌, subst, inl, inr, add-one, arith, drop-cons}
+use Rattle.std.proofs.Common.{◌≡◌, ℕ, zero, suc, ◌+◌, ◌-◌, ◌*◌, ◌/◌, ◌%◌, ◌<◌, ◌≤◌, Bool, true, false, not, ◌&&◌, eqb, ◌⊎◌, List, [], ◌∷◌, length, get_or, drop, Some, None, Option, sym, refl, ap, ◌∙◌, subst, inl, inr, add-one, arith, drop-cons}
 use Rattle.std.specs.List.{slice_get}
 use Rattle.std.proofs.lemmas.List.{drop_all}
 use Rattle.std.proofs.lemmas.Bool.{eq-eqb, ne_eqb, eqb-true, both_ways}
@@ -7,15 +7,14 @@ use Rattle.owned.specs.Program.{Sig, kind}
 use Rattle.owned.specs.Kept.{is_num}
 use Rattle.owned.specs.VarSets.{bits}
 use Rattle.owned.specs.Code.{released}
-use Rattle.owned.specs.Runs.{Val, nothing, Cell, St, R, fine, fault, bind, set_v, with_cells, stays}
+use Rattle.owned.specs.Runs.{Val, nothing, Cell, St, R, fine, bind, set_v, with_cells, stays}
 use Rattle.owned.proofs.Places.{nth_set_other}
 use Rattle.machine.specs.Memory.{Control, Memory}
-use Rattle.machine.specs.Represents.{Means, Heap, State}
-use Rattle.owned.specs.Strict.{freed, or_fault, place, close_one, closes}
+use Rattle.machine.specs.Represents.{Means, Heap}
+use Rattle.owned.specs.Strict.{freed, or_fault, close_one, closes}
 use Rattle.machine.specs.Operations.{NoFault, Releases, CanRelease, Released}
 use Rattle.machine.specs.Calls.{Closes, CanClose, ClosedTo, Closed}
 use Rattle.machine.proofs.Words.{get_value, get_kind}
-use Rattle.machine.proofs.Results.{there_of}
 use Rattle.owned.proofs.Places.{nth_lt}
 
 -- variables from x on are still to be given back

@@ -1,12 +1,12 @@
 -- What the words of an expression say of its value: a leaf is two words, any other has its two operands after one.
-use Rattle.std.proofs.Common.{◌≡◌, ℕ, zero, suc, ◌+◌, ◌<◌, ◌≤◌, List, [], ◌∷◌, ◌++◌, length, get_or, drop, sym, refl, ap, ◌∙◌, subst, append_assoc, arith, length-append}
+use Rattle.std.proofs.Common.{◌≡◌, ℕ, zero, suc, ◌+◌, ◌<◌, ◌≤◌, List, [], ◌∷◌, ◌++◌, length, get_or, drop, sym, refl, ap, ◌∙◌, append_assoc, arith, length-append}
 use Rattle.std.proofs.lemmas.List.{drop-drop}
 use Rattle.owned.specs.Program.{E, Sig}
 use Rattle.owned.specs.Runs.{Val, n, at, nothing, St, May, ok, bad, as_num, with_m, value, get}
 use Rattle.owned.specs.Rows.{row_e}
 use Rattle.machine.specs.Memory.{Control, Memory}
 use Rattle.machine.specs.Represents.{Means, State}
-use Rattle.machine.specs.Operations.{ExprAt, Evaluates, CanEvaluate, Evaluated, combined}
+use Rattle.machine.specs.Operations.{Evaluates, CanEvaluate, Evaluated, combined}
 use Rattle.machine.proofs.Words.{word_in, get_var}
 
 -- past the words that stand at a place

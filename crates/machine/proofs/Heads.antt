@@ -1,8 +1,8 @@
 -- The statement that the machine stands at, by its first words.
-use Rattle.std.proofs.Common.{◌≡◌, ℕ, zero, suc, ◌+◌, ◌<◌, ◌≤◌, List, [], ◌∷◌, ◌++◌, length, get_or, drop, Some, None, Option, sym, refl, ap, ◌∙◌, subst, arith, length-drop}
+use Rattle.std.proofs.Common.{◌≡◌, ℕ, ◌+◌, ◌<◌, ◌≤◌, List, ◌++◌, length, get_or, drop, Some, sym, refl, ap, ◌∙◌, subst, arith, length-drop}
 use Rattle.std.proofs.lemmas.List.{get_or-drop}
 use Rattle.owned.specs.Program.{E, Arg, S, Sig, Prog}
-use Rattle.owned.specs.Rows.{row_e, row_s}
+use Rattle.owned.specs.Rows.{row_s}
 use Rattle.owned.specs.Runs.{St}
 use Rattle.owned.specs.Machine.{Frame}
 use Rattle.owned.specs.Decode.{variable, head_by, head_shape, between}
@@ -10,9 +10,7 @@ use Rattle.owned.specs.declared.decode.Transfer.TheVariants.{Box, Unbox, Look, F
 use Rattle.owned.specs.declared.decode.Statement.{Statement}
 use Rattle.owned.specs.declared.decode.Statement.TheVariants.{Skip, Then, Set, Between, Drop, If, While, Call, Show}
 use Rattle.machine.specs.Memory.{Control, Memory}
-use Rattle.machine.specs.Operations.{ExprAt}
 use Rattle.machine.specs.Steps.{Ready, CanStep, any_s, if_s, while_s}
-use Rattle.machine.proofs.Evaluating.{drop_past}
 use Rattle.machine.proofs.Branching.{standing}
 
 -- a statement with this head, by the parts that follow

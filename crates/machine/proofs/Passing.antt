@@ -1,15 +1,14 @@
 -- Arguments on their way into the next frame, one after the other.
-use Rattle.std.proofs.Common.{◌≡◌, ℕ, zero, suc, ◌+◌, ◌-◌, ◌<◌, ◌≤◌, ◌⊎◌, List, [], ◌∷◌, ◌++◌, length, get_or, drop, set, Some, None, Option, sym, refl, ap, ◌∙◌, subst, inl, inr, append_assoc, arith, length-append, length-set}
+use Rattle.std.proofs.Common.{◌≡◌, ℕ, zero, suc, ◌+◌, ◌<◌, ◌≤◌, ◌⊎◌, List, [], ◌∷◌, ◌++◌, length, get_or, drop, set, Some, None, Option, sym, refl, ap, ◌∙◌, subst, inl, inr, append_assoc, arith, length-append, length-set}
 use Rattle.std.specs.List.{slice_get}
 use Rattle.std.proofs.lemmas.List.{get_or-set_same, get_or-set_other, get_or_append_left, get_or-append-add}
 use Rattle.std.proofs.lemmas.Bool.{cases_eq}
 use Rattle.owned.specs.Program.{Arg, Sig, kind}
 use Rattle.owned.specs.Rows.{row_as}
-use Rattle.owned.specs.Runs.{Val, nothing, Cell, St, Took, took, missing, more, onto}
-use Rattle.owned.proofs.Places.{nth_lt}
-use Rattle.machine.specs.Memory.{Control, Memory, set_word, with_frames}
-use Rattle.machine.specs.Represents.{Means, Vars, Heap, State}
-use Rattle.owned.specs.Strict.{fetched, lent_at, pass_one, pass}
+use Rattle.owned.specs.Runs.{Val, nothing, St, Took, took, missing, more, onto}
+use Rattle.machine.specs.Memory.{Control, Memory, set_word}
+use Rattle.machine.specs.Represents.{Means, Vars, State}
+use Rattle.owned.specs.Strict.{lent_at, pass_one, pass}
 use Rattle.machine.specs.Operations.{Takes, CanTake, TookOut}
 use Rattle.machine.specs.Calls.{PassesOne, CanPassOne, PassedOne, Passes, CanPass, Passed}
 use Rattle.machine.proofs.Words.{word_in, get_value, vars_same}

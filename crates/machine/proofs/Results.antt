@@ -1,8 +1,8 @@
 -- What a result with no fault came from.
-use Rattle.std.proofs.Common.{◌≡◌, ℕ, ◌+◌, ◌<◌, Bool, true, false, cond, eqb, List, get_or, Some, None, Option, sym, refl, ap, ◌∙◌, subst, arith}
+use Rattle.std.proofs.Common.{◌≡◌, ℕ, Bool, true, false, cond, eqb, Some, None, Option, sym, refl, ◌∙◌}
 use Rattle.std.specs.List.{slice_get}
-use Rattle.owned.specs.Runs.{Val, n, at, nothing, Cell, free, holds, St, R, fine, fault, full, May, ok, bad, num, get, cell_at, set_v, with_cells, in_box, held, first, first_free, new, box_at, Took, took, missing, with_t}
-use Rattle.owned.specs.Strict.{freed, or_fault, place, fetched}
+use Rattle.owned.specs.Runs.{Val, n, at, nothing, Cell, free, holds, St, R, fine, fault, full, May, ok, bad, num, cell_at, set_v, with_cells, in_box, held, first, first_free, new, box_at, Took, took, missing, with_t}
+use Rattle.owned.specs.Strict.{freed, or_fault, place}
 use Rattle.machine.specs.Operations.{NoFault}
 
 module _ {r : R} (well : NoFault r) where

@@ -1,17 +1,17 @@
 -- Back to the caller: its frame says where it goes on and where the result goes.
-use Rattle.std.proofs.Common.{◌≡◌, ℕ, zero, suc, ◌+◌, ◌-◌, ◌*◌, ◌^◌, ◌<◌, ◌≤◌, true, ◌||◌, eqb, List, [], ◌∷◌, length, get_or, take, Some, None, sym, refl, ap, ◌∙◌, subst, arith, length-take, get_or-take}
+use Rattle.std.proofs.Common.{◌≡◌, ℕ, suc, ◌+◌, ◌-◌, ◌*◌, ◌^◌, ◌<◌, ◌≤◌, true, List, [], ◌∷◌, length, get_or, take, Some, sym, refl, ap, ◌∙◌, subst, arith, length-take, get_or-take}
 use Rattle.std.specs.List.{slice_get}
 use Rattle.std.proofs.lemmas.Bool.{eq-eqb}
-use Rattle.owned.specs.Program.{S, Sig, Prog, kind}
-use Rattle.owned.specs.Runs.{first_free, Val, St, R, fine, fault, with_vars, stays}
-use Rattle.owned.specs.Machine.{Frame, Mach, going, stopped, and_m}
+use Rattle.owned.specs.Program.{Sig, Prog, kind}
+use Rattle.owned.specs.Runs.{first_free, Val, St, R, fine, with_vars, stays}
+use Rattle.owned.specs.Machine.{Frame, going, and_m}
 use Rattle.machine.specs.Memory.{Control, Memory, left}
-use Rattle.machine.specs.Represents.{Means, State, FrameAt, Frames, Context, Represents}
+use Rattle.machine.specs.Represents.{Means, State, FrameAt, Represents}
 use Rattle.owned.specs.Strict.{or_fault, place, closes, returned, strict}
 use Rattle.machine.specs.Operations.{NoFault, Puts, CanPut, PutIn}
 use Rattle.machine.specs.Steps.{Going, Kept}
 use Rattle.machine.specs.Calls.{Closes, CanClose, ClosedTo, Closed, Leaves, CanLeave, Left}
-use Rattle.machine.proofs.Words.{get_value, with_heap}
+use Rattle.machine.proofs.Words.{get_value}
 use Rattle.machine.proofs.Results.{there_of, place_of}
 use Rattle.machine.proofs.Callers.{frame_same, frames_same}
 use Rattle.machine.proofs.Branching.{kept_same}

@@ -1,9 +1,8 @@
 -- A step: what the statement's head says is done, and the machine goes on after it.
-use Rattle.std.proofs.Common.{◌≡◌, ℕ, zero, suc, ◌+◌, ◌<◌, ◌≤◌, Bool, true, false, cond, ltb, List, [], ◌∷◌, ◌++◌, length, get_or, drop, set, Some, None, Ok, Err, Result, sym, refl, ap, ◌∙◌, subst, arith, length-set, drop-set-lt}
+use Rattle.std.proofs.Common.{◌≡◌, ℕ, ◌+◌, ◌<◌, Bool, true, false, cond, ltb, List, [], ◌∷◌, length, get_or, Some, Ok, Err, Result, sym, refl, ap, ◌∙◌, subst, arith, length-set, drop-set-lt}
 use Rattle.owned.specs.Program.{E, Arg, S, Sig, Prog}
-use Rattle.owned.specs.Rows.{row_e}
-use Rattle.owned.specs.Runs.{first_free, St, R, fine, fault, full}
-use Rattle.owned.specs.Machine.{Frame, Mach, going, stopped, and_m}
+use Rattle.owned.specs.Runs.{first_free, St, full}
+use Rattle.owned.specs.Machine.{Frame, going, stopped, and_m}
 use Rattle.owned.specs.Decode.{head_by, between}
 use Rattle.owned.specs.declared.names.Var.{Var}
 use Rattle.owned.specs.declared.decode.Transfer.{Transfer}
@@ -15,12 +14,12 @@ use Rattle.machine.specs.declared.machine.Halt.TheVariants.{Full, Spent, Deep}
 use Rattle.machine.specs.Memory.{Control, Memory, go_to, shows, showing, too_many}
 use Rattle.machine.specs.Represents.{single, State, Represents}
 use Rattle.owned.specs.Strict.{perform, strict_s}
-use Rattle.machine.specs.Operations.{NoFault, Does, Ended, CanDo, Did, CanDoAt, DidAt, Showed, Transferred, ExprAt}
+use Rattle.machine.specs.Operations.{Does, Ended, CanDo, Did, CanDoAt, DidAt, Showed, Transferred, ExprAt}
 use Rattle.machine.specs.Steps.{Going, After, Ready, CanStep, Stepped, Kept, any_s, if_s, while_s, call_s}
 use Rattle.machine.proofs.Words.{word_in}
 use Rattle.machine.proofs.Evaluating.{drop_past}
 use Rattle.machine.proofs.Branching.{standing, past, kept_same}
-use Rattle.machine.proofs.Heads.{Fits, fits_head}
+use Rattle.machine.proofs.Heads.{fits_head}
 
 abbrev Says : Control → Statement → Type 0
 Says c hd = head_by (get_or c.code.rows c.pos 0) (get_or c.code.rows (c.pos + 1) 0) (get_or c.code.rows (c.pos + 2) 0) (get_or c.code.rows (c.pos + 3) 0) ≡ Some hd

@@ -1,12 +1,12 @@
 -- Values taken out of variables and put into them, in words.
-use Rattle.std.proofs.Common.{◌≡◌, ℕ, zero, suc, ◌+◌, ◌<◌, ◌≤◌, List, length, get_or, Some, None, Option, sym, refl, ap, ◌∙◌, subst, arith, length-set}
+use Rattle.std.proofs.Common.{◌≡◌, ℕ, zero, suc, ◌+◌, ◌<◌, List, length, get_or, Some, None, Option, sym, refl, ap, ◌∙◌, subst, arith, length-set}
 use Rattle.std.proofs.lemmas.List.{get_or-set_other}
 use Rattle.std.specs.List.{slice_get}
 use Rattle.owned.specs.Program.{Sig, kind}
-use Rattle.owned.specs.Runs.{Val, n, at, nothing, Cell, St, R, fine, fault, get, set_v, with_cells, Took, took, missing, taken_box}
-use Rattle.owned.proofs.Places.{nth_lt, none_some}
+use Rattle.owned.specs.Runs.{Val, n, at, nothing, Cell, St, fine, fault, set_v, with_cells, Took, took, missing}
+use Rattle.owned.proofs.Places.{nth_lt}
 use Rattle.machine.specs.Memory.{Control, Memory, set_word}
-use Rattle.machine.specs.Represents.{Means, Heap, State}
+use Rattle.machine.specs.Represents.{State}
 use Rattle.owned.specs.Strict.{freed, or_fault, place, taken_at, fetched}
 use Rattle.machine.specs.Operations.{Releases, CanRelease, Released, Takes, CanTake, TookOut, Puts, CanPut, PutIn, Points}
 use Rattle.machine.proofs.Words.{get_var, get_value, get_kind, with_var, with_heap, box_there}

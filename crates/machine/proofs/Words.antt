@@ -1,12 +1,12 @@
 -- Reading and writing what the words stand for: words of the rows, variables, and cells.
 -- Variables and cells are said place by place, so that a write is looked at once, at its place and at another.
-use Rattle.std.proofs.Common.{◌≡◌, ℕ, zero, suc, ◌+◌, ◌<◌, ◌≤◌, ◌⊎◌, List, [], ◌∷◌, ◌++◌, length, get_or, take, drop, set, Some, None, sym, refl, ap, ◌∙◌, subst, inl, inr, arith, length-append, length-drop, length-set}
+use Rattle.std.proofs.Common.{◌≡◌, ℕ, zero, suc, ◌+◌, ◌<◌, ◌≤◌, ◌⊎◌, List, [], ◌∷◌, ◌++◌, length, get_or, take, drop, set, Some, sym, refl, ap, ◌∙◌, inl, inr, arith, length-append, length-drop, length-set}
 use lib.Seq.{take-set-le}
 use Rattle.std.specs.List.{slice_get}
 use Rattle.std.proofs.lemmas.List.{get_or-set_same, get_or-set_other, get_or-drop, get_or_append_left}
 use Rattle.std.proofs.lemmas.Bool.{cases_eq}
 use Rattle.owned.specs.Program.{Sig, kind}
-use Rattle.owned.specs.Runs.{Val, n, at, nothing, Cell, free, holds, St, get, set_v, with_cells}
+use Rattle.owned.specs.Runs.{Val, at, nothing, Cell, free, holds, St, get, set_v}
 use Rattle.owned.specs.FreeList.{next_free, FreeAt}
 use Rattle.owned.proofs.Places.{nth_lt, get_or_nth}
 use Rattle.machine.specs.Memory.{Control, Memory, set_word, set_content, with_frames}

@@ -1,10 +1,10 @@
 -- What the parts of a call and of a return ask for and do.
-use Rattle.std.specs.Prelude.{◌≡◌, ℕ, ◌+◌, ◌-◌, ◌*◌, ◌<◌, ◌≤◌, true, List, [], ◌∷◌, ◌++◌, length, drop, ◌≢◌, slice_index}
+use Rattle.std.specs.Prelude.{◌≡◌, ℕ, ◌+◌, ◌*◌, ◌<◌, ◌≤◌, true, List, [], ◌∷◌, ◌++◌, length, drop, ◌≢◌, slice_index}
 use Rattle.std.specs.List.{slice_get}
 use Rattle.owned.specs.Program.{Arg, Sig, Prog, kind}
 use Rattle.owned.specs.Rows.{row_as}
-use Rattle.owned.specs.Runs.{first_free, Val, Cell, St, R, fine, fault, Took, took, stays}
-use Rattle.owned.specs.Machine.{Frame, Mach, going, stopped}
+use Rattle.owned.specs.Runs.{first_free, Val, St, R, fine, fault, took, stays}
+use Rattle.owned.specs.Machine.{Frame, going, stopped}
 use Rattle.machine.specs.Memory.{Control, Memory, set_word, with_frames, entered}
 use Rattle.machine.specs.Represents.{Means, Vars, Heap, State, Row, Represents}
 use Rattle.machine.specs.Operations.{NoFault}

@@ -1,5 +1,5 @@
 -- What the machine's struct holds, as plain values: where it stands, and its memory.
-use Rattle.std.specs.Prelude.{ℕ, ◌+◌, ◌-◌, ◌*◌, Bool, true, false, cond, List, length, take, nat_lt, slice_index, slice_set}
+use Rattle.std.specs.Prelude.{ℕ, ◌+◌, ◌-◌, ◌*◌, Bool, true, cond, List, length, take, nat_lt, slice_index, slice_set}
 use Rattle.owned.specs.Code.{Code}
 use Rattle.machine.specs.declared.machine.Machine.{Machine}
 

@@ -1,5 +1,5 @@
 -- What a step of the machine asks for and does.
-use Rattle.std.specs.Prelude.{◌≡◌, ℕ, ◌<◌, ◌≤◌, List, [], ◌∷◌, length, drop, Ok, Err, Result, ◌≢◌}
+use Rattle.std.specs.Prelude.{◌≡◌, ℕ, ◌<◌, ◌≤◌, List, ◌∷◌, length, drop, Ok, Err, Result, ◌≢◌}
 use Rattle.owned.specs.Program.{E, Arg, S, Sig, Prog}
 use Rattle.owned.specs.Runs.{first_free, St, fault, full, spent, deep}
 use Rattle.owned.specs.Machine.{Frame, Mach, going, stopped}
@@ -7,7 +7,7 @@ use Rattle.machine.specs.declared.machine.Halt.{Halt}
 use Rattle.machine.specs.declared.machine.Halt.TheVariants.{Full, Spent, Deep}
 use Rattle.machine.specs.Memory.{Control, Memory}
 use Rattle.machine.specs.Represents.{Represents}
-use Rattle.owned.specs.Strict.{strict_s, strict}
+use Rattle.owned.specs.Strict.{strict_s}
 
 -- a machine that goes on, as memory has it
 pub record Going (g : Prog) (c : Control) (m : Memory) (w : Mach) : Type 0 where

@@ -1,3 +1,5 @@
+#![tactic(auto)]
+
 mod branches;
 mod calls;
 mod cells;

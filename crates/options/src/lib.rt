@@ -1,3 +1,5 @@
+#![tactic(auto)]
+
 ghost use Rattle.std.specs.Prelude.{◌≡◌, false, is_some, Some, None, fold};
 ghost use Rattle.options.specs.Parse.{grown, decimal as decimalOf, most as most_of, word as word_of, unnamed as unnamedOf, given as givenTo, put as putTo, valued, named, taken, ended};
 

@@ -1,13 +1,12 @@
 -- Arguments of a call at a place, one after the other in a loop: what they are, and what they ask.
 -- From place i of them on the definitions go over the rest of the list, so each turn of a loop takes one off.
-use Rattle.std.proofs.Common.{◌≡◌, ℕ, zero, suc, ◌+◌, ◌-◌, ◌*◌, ◌<◌, ◌≤◌, Bool, true, false, cond, not, ◌&&◌, ◌||◌, eqb, List, [], ◌∷◌, ◌++◌, length, get_or, drop, Some, None, Option, sym, refl, ap, ◌∙◌, subst, arith}
-use Rattle.std.proofs.lemmas.List.{drop_all}
+use Rattle.std.proofs.Common.{◌≡◌, ℕ, suc, ◌+◌, ◌-◌, ◌*◌, ◌<◌, ◌≤◌, Bool, true, false, cond, not, ◌&&◌, ◌||◌, eqb, List, [], ◌∷◌, ◌++◌, length, get_or, drop, Some, None, Option, sym, refl, ap, ◌∙◌, subst, arith}
 use Rattle.std.proofs.lemmas.Bool.{eq-eqb, ne_eqb}
 use Rattle.owned.specs.declared.varset.VarSet.{VarSet}
 use Rattle.owned.specs.Program.{Arg, Sig}
 use Rattle.owned.specs.Rows.{row_as}
 use Rattle.owned.specs.Kept.{Full, is_num, both, when, again, lent_away, handed, hands, full_after_give}
-use Rattle.owned.specs.Views.{Seen, full_of, After, ArgsAt, ThereArgs, SaysAgain, SaysLent, SaysAlone, SaysHere, SaysHands}
+use Rattle.owned.specs.Views.{Seen, full_of, ArgsAt, ThereArgs, SaysAgain, SaysLent, SaysAlone, SaysHere, SaysHands}
 use Rattle.owned.proofs.Layouts.{word_at}
 
 -- the first argument, and the others

@@ -1,17 +1,16 @@
 -- A call by its head: the destination, the procedure that is found, its arguments, and that the destination stays here.
 -- Each lemma is a way out of the code; those before it are its hypotheses.
-use Rattle.std.proofs.Common.{◌≡◌, ℕ, ◌+◌, ◌*◌, ◌<◌, ◌≤◌, Bool, true, false, not, ◌||◌, eqb, List, [], ◌∷◌, ◌++◌, length, drop, set, Some, None, Option, sym, refl, ap, ◌∙◌, subst, arith}
+use Rattle.std.proofs.Common.{◌≡◌, ℕ, ◌+◌, ◌*◌, ◌≤◌, Bool, true, false, not, ◌||◌, eqb, List, length, drop, set, Some, None, Option, sym, ap, ◌∙◌, arith}
 use Rattle.std.specs.List.{slice_get}
 use Rattle.std.proofs.lemmas.Bool.{eq-eqb, ne_eqb}
 use Rattle.owned.specs.declared.names.Var.{Var}
 use Rattle.owned.specs.declared.varset.VarSet.{VarSet}
 use Rattle.owned.specs.declared.decode.Statement.TheVariants.{Call}
 use Rattle.owned.specs.Program.{Arg, S, Sig, Proc, Prog, kind}
-use Rattle.owned.specs.Rows.{row_as}
 use Rattle.owned.specs.Kept.{Full, is_num, takes, both, when, lent_away, hands, called, keeps}
 use Rattle.owned.specs.Decode.{list_t}
 use Rattle.owned.specs.Ends.{HeadAt, Placed}
-use Rattle.owned.specs.Views.{Seen, full_of, After, KeptTo, SaysS, ThereS, Found, ArgsAt, ThereArgs, SaysHere, SaysHands}
+use Rattle.owned.specs.Views.{Seen, full_of, KeptTo, SaysS, ThereS, Found, ArgsAt, ThereArgs, SaysHere, SaysHands}
 use Rattle.owned.proofs.Chains.{length_list_t}
 use Rattle.owned.proofs.Statements.{row_args}
 use Rattle.owned.proofs.Reading.{by_head, parts_there}

@@ -1,13 +1,12 @@
 -- Where decoders end, as the code finds it: one after the other, n in a loop, and by a head and its shape.
 -- `Ended` ties a decoder's answer to a place in the rows; each lemma is one step of the code.
-use Rattle.std.proofs.Common.{◌≡◌, ℕ, zero, suc, ◌+◌, ◌-◌, ◌<◌, ◌≤◌, Bool, true, false, ltb, leb, List, [], ◌∷◌, ◌++◌, length, get_or, drop, Some, None, Option, sym, refl, ap, ◌∙◌, subst, inl, inr, arith}
+use Rattle.std.proofs.Common.{◌≡◌, ℕ, zero, suc, ◌+◌, ◌-◌, ◌<◌, ◌≤◌, true, false, leb, List, length, get_or, drop, Some, None, Option, sym, refl, ap, ◌∙◌, subst, inl, inr, arith}
 use Rattle.std.proofs.lemmas.List.{length-drop, get_or-drop, drop-drop, at_drop_more, at_drop_all}
 use Rattle.std.proofs.lemmas.Bool.{cases_lt, le-leb, lt-leb, lt-ltb, le-ltb}
 use Rattle.owned.specs.declared.decode.Expression.{Expression}
 use Rattle.owned.specs.declared.decode.Statement.{Statement}
 use Rattle.owned.specs.declared.decode.Shape.{Shape}
-use Rattle.owned.specs.Program.{E, Arg, S}
-use Rattle.owned.specs.Decode.{Hit, chain, guard, Tuple, many, fits, word, below1, read_a, node_by, node_shape, node_of, make_e, read_e, head_by, head_shape, head_of, Parts, make, parts, read_s}
+use Rattle.owned.specs.Decode.{Hit, chain, guard, Tuple, many, fits, word, below1, read_a, node_by, node_shape, node_of, make_e, read_e, head_by, head_shape, head_of, make, parts, read_s}
 use Rattle.owned.specs.Ends.{Ended, FitsAt, NodeAt, HeadAt}
 
 -- one after the other

@@ -1,13 +1,13 @@
 -- The decoder of expressions reads just what is written: by the head, then by its operands.
 -- Soundness goes along the decoder, completeness by the nesting that is left.
-use Rattle.std.proofs.Common.{◌≡◌, ℕ, zero, suc, ◌+◌, ◌≤◌, max, List, [], ◌∷◌, ◌++◌, length, get_or, drop, Some, None, Option, sym, refl, ap, ◌∙◌, subst, append_assoc, arith, le→leb}
+use Rattle.std.proofs.Common.{◌≡◌, ℕ, zero, suc, ◌+◌, ◌≤◌, max, List, [], ◌∷◌, ◌++◌, get_or, Some, sym, refl, ap, ◌∙◌, subst, append_assoc, arith, le→leb}
 use Rattle.owned.specs.declared.decode.Operator.{Operator}
 use Rattle.owned.specs.declared.decode.Operator.TheVariants.{Add, Sub, Mul, Less}
 use Rattle.owned.specs.declared.decode.Expression.{Expression}
 use Rattle.owned.specs.declared.decode.Expression.TheVariants.{Number, Variable, Binary}
 use Rattle.owned.specs.Program.{E}
 use Rattle.owned.specs.Rows.{row_e, deep_e}
-use Rattle.owned.specs.Decode.{Hit, chain, Tuple, many, fits, variable, node_by, node_shape, node_of, binary, make_e, read_e}
+use Rattle.owned.specs.Decode.{Tuple, many, variable, node_by, node_shape, node_of, binary, make_e, read_e}
 use Rattle.owned.proofs.Chains.{Good, bind, passed, AllT, row_t, Sound, Complete, many_sound, many_complete, front1, front2, Fronted, fits_sound}
 
 abbrev pub operator_code : Operator → ℕ

@@ -1,6 +1,6 @@
 -- The free list: where the next free cell is, before and after a cell is taken or given back, by induction on the cells;
 -- then that the chain of links stays right when the first free cell is taken and when a cell is put back into its place.
-use Rattle.std.proofs.Common.{◌≡◌, ℕ, zero, suc, ◌+◌, ◌<◌, ◌≤◌, ◌≢◌, ◌⊎◌, List, [], ◌∷◌, length, get_or, drop, set, replicate, Some, None, sym, refl, ap, ◌∙◌, subst, inl, inr, add-one, arith}
+use Rattle.std.proofs.Common.{◌≡◌, ℕ, zero, suc, ◌+◌, ◌<◌, ◌≤◌, ◌≢◌, ◌⊎◌, List, [], ◌∷◌, length, get_or, set, replicate, Some, None, sym, refl, ap, ◌∙◌, subst, inl, inr, add-one, arith}
 use Rattle.std.proofs.lemmas.List.{length-set, length-replicate, get_or-set_same, get_or-set_other, get_or_default, drop-set-lt}
 use Rattle.std.proofs.lemmas.Bool.{cases_order}
 use Rattle.owned.specs.Runs.{Val, nothing, Cell, free, holds, first}

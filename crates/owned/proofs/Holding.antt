@@ -6,7 +6,7 @@ use Rattle.std.specs.List.{slice_get}
 use Rattle.std.proofs.lemmas.List.{get_or-set_other}
 use Rattle.std.proofs.lemmas.Bool.{cases_eq, both_ways, or_left}
 use Rattle.owned.specs.Program.{Arg, S, Sig, Prog, bit, kind, is_lent}
-use Rattle.owned.specs.Runs.{Val, at, nothing, Cell, free, holds, St, get, used}
+use Rattle.owned.specs.Runs.{Val, nothing, Cell, free, holds, St, get, used}
 use Rattle.owned.specs.Machine.{Frame}
 use Rattle.owned.specs.Kept.{Full, is_full}
 use Rattle.owned.specs.Values

@@ -1,17 +1,16 @@
 -- What is full after a statement, by its head: one group of lemmas for each, a lemma for each way out of the code.
 -- A part that was read says where the next part begins, and what is full there.
-use Rattle.std.proofs.Common.{◌≡◌, ℕ, ◌+◌, ◌<◌, ◌≤◌, Bool, true, false, ◌&&◌, eqb, leb, List, [], ◌∷◌, ◌++◌, length, drop, set, Some, None, Option, sym, refl, ap, ◌∙◌, subst, arith}
+use Rattle.std.proofs.Common.{◌≡◌, ℕ, ◌+◌, ◌<◌, ◌≤◌, Bool, true, false, ◌&&◌, leb, List, ◌++◌, length, drop, set, Some, None, Option, sym, refl, ap, ◌∙◌, subst, arith}
 use Rattle.owned.specs.declared.names.Var.{Var}
 use Rattle.owned.specs.declared.varset.VarSet.{VarSet}
 use Rattle.owned.specs.declared.decode.Transfer.{Transfer}
 use Rattle.owned.specs.declared.decode.Transfer.TheVariants.{Box, Unbox, Look, Fill, Move}
-use Rattle.owned.specs.declared.decode.Statement.{Statement}
 use Rattle.owned.specs.declared.decode.Statement.TheVariants.{Skip, Then, Set, Between, Drop, If, While, Show}
 use Rattle.owned.specs.Program.{E, S, Sig, Prog, kind}
 use Rattle.owned.specs.Rows.{row_e, row_s}
 use Rattle.owned.specs.Kept.{Full, is_num, takes, numbers, keeps, both, when, joined, alike}
 use Rattle.owned.specs.Decode.{between}
-use Rattle.owned.specs.Ends.{HeadAt, Placed}
+use Rattle.owned.specs.Ends.{HeadAt}
 use Rattle.owned.specs.Views.{Seen, full_of, Fit, SaysE, ThereE, KeptTo, SaysS, ThereS, allows, leaves}
 use Rattle.owned.proofs.Reading.{by_head, parts_there, later}
 

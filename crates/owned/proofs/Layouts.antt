@@ -1,9 +1,9 @@
 -- Where the parts of a procedure stand in the rows, from the place where it begins.
 -- Each part is at the front of what is left, so one part after the other is cut off.
-use Rattle.std.proofs.Common.{◌≡◌, ℕ, zero, suc, ◌+◌, ◌-◌, ◌<◌, ◌≤◌, List, [], ◌∷◌, ◌++◌, length, get_or, take, drop, Some, None, Option, sym, refl, ap, ◌∙◌, arith}
+use Rattle.std.proofs.Common.{◌≡◌, ℕ, zero, suc, ◌+◌, ◌-◌, ◌<◌, ◌≤◌, List, [], ◌∷◌, ◌++◌, length, get_or, take, drop, Some, None, sym, refl, ap, ◌∙◌, arith}
 use Rattle.std.specs.List.{slice_get}
 use Rattle.std.proofs.lemmas.List.{drop-drop}
-use Rattle.owned.specs.Program.{Sig, Proc, Prog}
+use Rattle.owned.specs.Program.{Proc, Prog}
 use Rattle.owned.specs.Rows.{row_s, row_p}
 use Rattle.owned.specs.Ends.{Placed}
 use Rattle.owned.specs.Views.{Seen, SeenAt, Found}

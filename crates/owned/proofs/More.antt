@@ -4,7 +4,7 @@ use Rattle.std.proofs.Common.{◌≡◌, ℕ, zero, suc, ◌+◌, ◌-◌, ◌*�
 use Rattle.std.specs.List.{slice_get}
 use Rattle.std.proofs.lemmas.List.{length-set, length-replicate, set-append_left, replicate-append-replicate}
 use Rattle.owned.specs.Program.{E, Arg, S, Sig, Proc, Prog, bit, kind}
-use Rattle.owned.specs.Runs.{Val, n, at, nothing, Cell, free, holds, St, R, fine, fault, full, spent, deep, bind, May, ok, bad, with_m, value, as_num, num, get, cell_at, with_vars, with_cells, with_left, set_v, set_c, in_box, held_in, give, first, first_free, box_at, new_at, Took, took, missing, with_t, taken_box, taken, into, hand_one, more as add-value, onto, hand, turn_at, exec, opening, stays, end_one, ends, run_s, enter, run_p, last, at_start, run}
+use Rattle.owned.specs.Runs.{Val, n, at, nothing, Cell, free, holds, St, R, fine, fault, full, spent, deep, bind, May, ok, bad, with_m, value, as_num, num, get, cell_at, with_vars, with_cells, with_left, set_v, set_c, in_box, held_in, give, first, first_free, box_at, new_at, Took, took, missing, with_t, taken_box, taken, into, hand_one, more as add-value, onto, hand, turn_at, exec, opening, stays, end_one, ends, run_s, enter, run_p, last, at_start}
 use Rattle.owned.specs.Says.{More}
 use Rattle.owned.proofs.Turns.{Call}
 

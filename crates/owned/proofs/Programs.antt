@@ -1,9 +1,9 @@
 -- The decoder of procedures reads just what is written, so rows are the writing of at most one program.
 -- A signature is words within limits, one after the other; then the body, then the next procedure.
-use Rattle.std.proofs.Common.{◌≡◌, ℕ, zero, suc, ◌≤◌, Bool, true, false, ◌&&◌, T, ltb, leb, List, [], ◌∷◌, ◌++◌, length, Some, None, Option, sym, refl, ap, ◌∙◌, arith, le→leb, leb→le}
-use Rattle.owned.specs.Program.{S, Sig, Proc, Prog}
+use Rattle.std.proofs.Common.{◌≡◌, ℕ, zero, suc, ◌≤◌, ◌&&◌, T, ltb, leb, List, [], ◌∷◌, ◌++◌, length, Some, None, Option, sym, refl, ap, ◌∙◌, arith, le→leb, leb→le}
+use Rattle.owned.specs.Program.{Sig, Proc, Prog}
 use Rattle.owned.specs.Rows.{row_s, row_p, row_ps, deep_s, ok_s, ok_sig, ok_p, ok_ps, below, Rows}
-use Rattle.owned.specs.Decode.{Hit, chain, guard, Tuple, many, list_t, word, below1, read_e, read_s, read_sig, read_p, read_ps, onto, before, ExactDecoder}
+use Rattle.owned.specs.Decode.{Hit, Tuple, many, list_t, word, below1, read_e, read_s, read_sig, read_p, read_ps, onto, before, ExactDecoder}
 use Rattle.owned.specs.Says.{OneProgram}
 use Rattle.owned.proofs.Chains.{and_t, T_and, Good, bind, guarded, passed, AllT, many_sound, tuple_of, list_tuple, length_list_t, one, word_sound, below_sound, row_list}
 use Rattle.owned.proofs.Expressions.{sound_e, complete_e}

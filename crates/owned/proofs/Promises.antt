@@ -1,11 +1,10 @@
 -- The public promises, from what the code found: the theorems that they carry, and what each answer says.
 -- An answer other than too few work words is one of three, each with its own reason.
-use Rattle.std.proofs.Common.{◌≡◌, ℕ, ◌+◌, ◌*◌, ◌<◌, ◌≤◌, true, false, T, leb, List, length, take, Some, None, sym, refl, ap, subst, arith, leb→le}
+use Rattle.std.proofs.Common.{◌≡◌, ℕ, ◌<◌, ◌≤◌, true, false, leb, List, length, take, None, sym, refl, ap, subst, arith, leb→le}
 use Rattle.std.proofs.lemmas.Bool.{leb-true, leb-false}
 use Rattle.owned.specs.declared.Judged.{Judged}
 use Rattle.owned.specs.declared.Judged.TheVariants.{Keeps, Careless, NoProgram, Few}
 use Rattle.owned.specs.Program.{Prog}
-use Rattle.owned.specs.Rows.{Rows}
 use Rattle.owned.specs.Kept.{kept}
 use Rattle.owned.specs.Decode.{read_ps}
 use Rattle.owned.specs.Ends.{Placed, Whole}

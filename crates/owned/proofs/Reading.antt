@@ -1,6 +1,6 @@
 -- What stands at a place of the rows, by its head: any expression or statement written there has that head and parts.
 -- So what a function found for the head holds of every statement that could be meant.
-use Rattle.std.proofs.Common.{◌≡◌, ℕ, ◌+◌, ◌<◌, ◌≤◌, Bool, true, false, ◌&&◌, List, [], ◌∷◌, ◌++◌, length, drop, Some, None, Option, sym, refl, ap, ◌∙◌, subst, inl, inr, arith}
+use Rattle.std.proofs.Common.{◌≡◌, ℕ, ◌+◌, ◌<◌, ◌≤◌, Bool, true, false, ◌&&◌, List, [], ◌++◌, length, drop, Some, None, Option, sym, refl, ap, ◌∙◌, subst, inl, inr, arith}
 use Rattle.std.proofs.lemmas.List.{drop_all}
 use Rattle.std.proofs.lemmas.Bool.{cases_lt}
 use Rattle.owned.specs.declared.decode.Operator.{Operator}
@@ -17,8 +17,8 @@ use Rattle.owned.specs.Decode.{Hit, Tuple, node_of, node_shape, binary, make_e, 
 use Rattle.owned.specs.Ends.{NodeAt, HeadAt, Placed}
 use Rattle.owned.specs.Views.{Seen, full_of, Numbered, SaysE, ThereE, KeptTo, SaysS, ThereS}
 use Rattle.owned.proofs.Chains.{row_t}
-use Rattle.owned.proofs.Expressions.{node_row, row_make_e, node_complete, ViewE, view_e}
-use Rattle.owned.proofs.Statements.{head_row, row_parts, row_make, head_complete, View, view}
+use Rattle.owned.proofs.Expressions.{row_make_e, node_complete, ViewE, view_e}
+use Rattle.owned.proofs.Statements.{row_parts, row_make, head_complete, View, view}
 
 -- the first of two equal answers
 hit_head : {H : Type 0} (h k : H) (us vs : List ℕ) → ◌≡◌ {A = Hit H} (Some (h, us)) (Some (k, vs)) → (h ≡ k) × (us ≡ vs)

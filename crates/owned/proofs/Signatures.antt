@@ -1,9 +1,9 @@
 -- Where a procedure's signature ends, and the procedure: one lemma for each way out of the code.
 -- The words of a signature are read one after the other, each within its limit.
-use Rattle.std.proofs.Common.{◌≡◌, ℕ, zero, suc, ◌+◌, ◌<◌, ◌≤◌, min, Bool, true, false, ◌&&◌, ltb, leb, List, length, get_or, drop, Some, None, Option, sym, refl, ap, ◌∙◌, subst, inl, inr, arith}
+use Rattle.std.proofs.Common.{◌≡◌, ℕ, ◌+◌, ◌<◌, ◌≤◌, min, Bool, true, false, ◌&&◌, leb, List, length, get_or, drop, Some, None, Option, sym, refl, ap, ◌∙◌, subst, inl, inr, arith}
 use Rattle.std.proofs.lemmas.List.{at_drop_more, at_drop_all}
 use Rattle.std.proofs.lemmas.Bool.{cases_lt, le-leb, lt-leb, and_from, and_left, and_right}
-use Rattle.owned.specs.Program.{Sig, Proc}
+use Rattle.owned.specs.Program.{Sig}
 use Rattle.owned.specs.Decode.{Hit, chain, guard, Tuple, many, list_t, word, below1, read_s, read_sig, read_p}
 use Rattle.owned.specs.Ends.{Ended, WordUpTo}
 use Rattle.owned.proofs.Ends.{chain_none, chain_some, made_end, below_end, below_past, below_big}

@@ -6,7 +6,7 @@ use Rattle.std.proofs.lemmas.List.{get_or-set_other}
 use Rattle.std.proofs.lemmas.Option.{slice_get-get_or}
 use Rattle.std.proofs.lemmas.Bool.{and_parts, not-true, cases_eq, both_ways}
 use Rattle.owned.specs.Program.{E, Sig, is_lent}
-use Rattle.owned.specs.Runs.{Val, at, nothing, Cell, free, holds, St, R, fine, fault, full, spent, deep, bind, May, ok, bad, as_num, value, num, set_v, with_cells, get, Took, took, missing, first}
+use Rattle.owned.specs.Runs.{Val, nothing, Cell, free, holds, St, R, fine, full, spent, deep, bind, May, ok, bad, as_num, value, num, set_v, with_cells, get, Took, took, first}
 use Rattle.owned.specs.Strict.{place, fetched}
 use Rattle.owned.specs.Values
 use Rattle.owned.specs.Values.{Tree, of_kind}

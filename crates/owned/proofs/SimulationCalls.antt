@@ -5,7 +5,7 @@ use Rattle.std.specs.List.{slice_get}
 use Rattle.std.proofs.lemmas.List.{get_or-set_other, set-set}
 use Rattle.std.proofs.lemmas.Bool.{cases_eq}
 use Rattle.owned.specs.Program.{Arg, Sig, kind, is_lent}
-use Rattle.owned.specs.Runs.{Val, n, at, nothing, Cell, St, set_v, get, Took, took, missing}
+use Rattle.owned.specs.Runs.{Val, n, at, nothing, Cell, St, set_v, get, Took, took}
 use Rattle.owned.specs.Strict.{fetched, pass}
 use Rattle.owned.specs.Kept.{again}
 use Rattle.owned.specs.Values

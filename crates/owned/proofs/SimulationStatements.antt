@@ -4,7 +4,7 @@ use Rattle.std.proofs.Common.{◌≡◌, ℕ, zero, suc, ◌+◌, Bool, true, fa
 use Rattle.std.specs.List.{slice_get}
 use Rattle.std.proofs.lemmas.Bool.{not-true}
 use Rattle.owned.specs.Program.{E, S, Sig, kind, is_lent}
-use Rattle.owned.specs.Runs.{Val, n, at, nothing, Cell, free, holds, St, R, fine, value, set_v, set_c, with_cells, held, Took, took, missing, with_t, Chooser, new_at, stays}
+use Rattle.owned.specs.Runs.{Val, n, at, nothing, Cell, free, holds, St, R, fine, value, set_v, set_c, with_cells, held, Took, with_t, Chooser, new_at, stays}
 use Rattle.owned.specs.Strict.{freed, or_fault, place, fetched, perform, close_one, closes}
 use Rattle.owned.specs.Values
 use Rattle.owned.specs.Values.{Tree, weight, of_kind}

@@ -5,9 +5,9 @@ use Rattle.std.specs.List.{slice_get}
 use Rattle.std.proofs.lemmas.List.{get_or_append_left}
 use Rattle.std.proofs.lemmas.Bool.{eq-eqb}
 use Rattle.owned.specs.Program.{Arg, S, Sig, Proc, Prog, kind, is_lent}
-use Rattle.owned.specs.Runs.{Val, n, at, nothing, Cell, free, St, R, fine, fault, full, spent, deep, May, ok, bad, value, get, with_vars, with_left, Took, took, missing, Chooser, blank, opening, last, used, at_start}
+use Rattle.owned.specs.Runs.{Val, n, at, nothing, Cell, free, St, R, fine, fault, full, spent, deep, May, ok, bad, value, get, with_vars, with_left, Took, Chooser, blank, opening, last, used, at_start}
 use Rattle.owned.specs.Machine.{Frame, Mach, going, stopped, push, and_m, num_m, turn_m, hand_m, enter_m, call_m, step, start}
-use Rattle.owned.specs.Strict.{or_fault, place, pass, perform, enters, closes, returned, strict_s, strict}
+use Rattle.owned.specs.Strict.{or_fault, place, pass, perform, enters, returned, strict_s, strict}
 use Rattle.owned.specs.Values
 use Rattle.owned.specs.Values.{Tree, fits, boxless, restore}
 use Rattle.owned.specs.Holders.{Owns, OwnsAll, frees, Chooses}

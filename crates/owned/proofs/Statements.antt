@@ -1,13 +1,13 @@
 -- The decoder of statements reads just what is written: by the head, then by the parts that its shape says.
 -- Every statement is a head and its parts, so one path serves them all; a new kind costs a line in each table.
-use Rattle.std.proofs.Common.{◌≡◌, ℕ, zero, suc, ◌+◌, ◌<◌, ◌≤◌, max, Bool, true, false, ◌&&◌, T, ltb, leb, List, [], ◌∷◌, ◌++◌, length, get_or, drop, Some, None, Option, sym, refl, ap, ◌∙◌, subst, append_assoc, arith, le→leb, leb→le}
+use Rattle.std.proofs.Common.{◌≡◌, ℕ, zero, suc, ◌≤◌, T, ltb, List, [], ◌∷◌, ◌++◌, length, get_or, Some, sym, refl, ap, ◌∙◌, subst, append_assoc, arith, le→leb}
 use Rattle.owned.specs.declared.decode.Transfer.{Transfer}
 use Rattle.owned.specs.declared.decode.Transfer.TheVariants.{Box, Unbox, Look, Fill, Move}
 use Rattle.owned.specs.declared.decode.Statement.{Statement}
 use Rattle.owned.specs.declared.decode.Statement.TheVariants.{Skip, Then, Set, Between, Drop, If, While, Call, Show}
-use Rattle.owned.specs.Program.{E, Arg, S}
+use Rattle.owned.specs.Program.{Arg, S}
 use Rattle.owned.specs.Rows.{row_e, row_as, row_s, deep_e, deep_s, ok_s, marks}
-use Rattle.owned.specs.Decode.{Hit, chain, guard, Tuple, many, list_t, fits, variable, head_shape, head_by, head_of, Parts, between, make, below1, read_a, read_e, parts, read_s}
+use Rattle.owned.specs.Decode.{Tuple, many, list_t, variable, head_shape, head_by, head_of, Parts, between, make, below1, read_a, read_e, parts, read_s}
 use Rattle.owned.proofs.Chains.{and_t, T_and, Good, bind, passed, AllT, row_t, Sound, Complete, many_sound, many_complete, tuple_of, list_tuple, length_list_t, below_sound, below_complete, front1, front2, front3, front4, Fronted, fits_sound}
 use Rattle.owned.proofs.Expressions.{sound_e, complete_e}
 

@@ -7,7 +7,7 @@ use Rattle.std.proofs.lemmas.List.{length-set, get_or-set_other}
 use Rattle.std.proofs.lemmas.Option.{slice_get-get_or}
 use Rattle.std.proofs.lemmas.Bool.{ltb-true, eqb-true, and_parts, or_cases, or_left, not-true, cases_eq, both_ways, false≢true}
 use Rattle.owned.specs.Program.{E, Sig, kind, is_lent, bit}
-use Rattle.owned.specs.Runs.{May, ok, with_m}
+use Rattle.owned.specs.Runs.{May, with_m}
 use Rattle.owned.specs.Kept.{Full, is_full, there, numbers, gives, takes}
 use Rattle.owned.specs.Values.{Tree, of_kind, St, R, fine, fault, full, spent, deep, value, into, took, taken, set_v}
 use Rattle.owned.proofs.Places.{nth_set, nth_set_other, set_found, get_or_nth}

@@ -1,6 +1,6 @@
 -- The program as the machine has it: the rows, and tables made once, by which a position stands for the statements
 -- that are pending there.
-use Rattle.std.specs.Prelude.{◌≡◌, ℕ, ◌+◌, ◌*◌, ◌<◌, ◌≤◌, Bool, true, false, not, ◌&&◌, List, [], ◌∷◌, ◌++◌, length, drop, Some, slice_index, slice_index_or}
+use Rattle.std.specs.Prelude.{◌≡◌, ℕ, ◌+◌, ◌*◌, ◌<◌, ◌≤◌, Bool, not, ◌&&◌, List, [], ◌∷◌, ◌++◌, length, drop, Some, slice_index, slice_index_or}
 use Rattle.std.specs.List.{slice_get}
 use Rattle.owned.specs.Program.{S, Sig, Proc, Prog}
 use Rattle.owned.specs.Runs.{stays}

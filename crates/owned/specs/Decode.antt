@@ -1,6 +1,6 @@
 -- How rows are decoded: what stands at the front of a list of words, and the words after it. The nesting that is
 -- left is the decoder's fuel.
-use Rattle.std.specs.Prelude.{◌≡◌, ℕ, zero, suc, ◌+◌, ◌≤◌, Bool, true, false, ◌&&◌, T, ◌↔◌, List, [], ◌∷◌, ◌++◌, length, drop, Some, None, Option, nat_le, nat_lt, slice_index}
+use Rattle.std.specs.Prelude.{◌≡◌, ℕ, zero, suc, ◌≤◌, Bool, true, false, ◌&&◌, T, ◌↔◌, List, [], ◌∷◌, ◌++◌, length, drop, Some, None, Option, nat_le, nat_lt, slice_index}
 use Rattle.owned.specs.declared.names.Var.{Var}
 use Rattle.owned.specs.declared.decode.Operator.{Operator}
 use Rattle.owned.specs.declared.decode.Operator.TheVariants.{Add, Sub, Mul, Less}

@@ -1,5 +1,5 @@
 -- Where in the rows what was decoded ends, as the code says it, and where procedures begin.
-use Rattle.std.specs.Prelude.{◌≡◌, ℕ, ◌+◌, ◌<◌, ◌≤◌, List, [], ◌∷◌, ◌++◌, length, take, drop, Some, None, Option, slice_index}
+use Rattle.std.specs.Prelude.{◌≡◌, ℕ, ◌+◌, ◌<◌, ◌≤◌, List, [], ◌∷◌, length, take, drop, Some, None, Option, slice_index}
 use Rattle.owned.specs.declared.decode.Expression.{Expression}
 use Rattle.owned.specs.declared.decode.Statement.{Statement}
 use Rattle.owned.specs.declared.decode.Shape.{Shape}

@@ -1,7 +1,7 @@
 -- What a run is step by step: the same as `run`, with the pending statements and the suspended callers spelled out.
-use Rattle.std.specs.Prelude.{ℕ, zero, suc, true, false, cond, List, [], ◌∷◌, Some, None, Option, ◌==◌}
+use Rattle.std.specs.Prelude.{ℕ, zero, suc, cond, List, [], ◌∷◌, Some, None, Option, ◌==◌}
 use Rattle.std.specs.List.{slice_get}
-use Rattle.owned.specs.Program.{E, S, Sig, Proc, Prog, kind}
+use Rattle.owned.specs.Program.{S, Sig, Proc, Prog, kind}
 use Rattle.owned.specs.Runs.{Val, St, R, fine, fault, full, spent, deep, May, ok, bad, Took, took, missing, Chooser, value, get, with_vars, with_left, into, hand, exec, opening, ends, last, at_start}
 
 -- a caller that waits: its variables, the statements it goes on with, and where the result goes

@@ -1,5 +1,5 @@
 -- Programs with numbers and boxes.
-use Rattle.std.specs.Prelude.{ℕ, Bool, true, false, cond, List, ◌==◌, slice_index}
+use Rattle.std.specs.Prelude.{ℕ, Bool, cond, List, ◌==◌, slice_index}
 
 -- expressions over numbers of 32 bits
 pub data E : Type 0 where

@@ -1,5 +1,5 @@
 -- Programs written as rows of 32-bit words, in prefix order.
-use Rattle.std.specs.Prelude.{◌≡◌, ℕ, ◌+◌, max, Bool, true, false, ◌&&◌, T, List, [], ◌∷◌, ◌++◌, length, nat_le, nat_lt}
+use Rattle.std.specs.Prelude.{◌≡◌, ℕ, ◌+◌, max, Bool, true, ◌&&◌, T, List, [], ◌∷◌, ◌++◌, length, nat_le, nat_lt}
 use Rattle.owned.specs.Program.{E, Arg, S, Sig, Proc, Prog}
 
 abbrev pub row_e : E → List ℕ

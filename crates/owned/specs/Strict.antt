@@ -3,8 +3,8 @@
 -- it is the step of the definition.
 use Rattle.std.specs.Prelude.{ℕ, zero, suc, ◌+◌, Bool, true, false, cond, List, [], ◌∷◌, ◌++◌, length, Some, None, Option, ◌==◌, slice_index_or, slice_set}
 use Rattle.std.specs.List.{slice_get}
-use Rattle.owned.specs.Program.{E, Arg, S, Sig, Prog, kind}
-use Rattle.owned.specs.Runs.{Val, n, at, nothing, Cell, free, holds, St, R, fine, fault, full, spent, deep, bind, as_num, value, num, get, with_vars, with_cells, set_v, set_c, in_box, held, Chooser, new, Took, took, missing, with_t, taken_box, more, onto, opening, stays, last}
+use Rattle.owned.specs.Program.{Arg, S, Sig, Prog, kind}
+use Rattle.owned.specs.Runs.{Val, n, at, nothing, Cell, free, holds, St, R, fine, fault, deep, bind, as_num, value, num, get, with_vars, with_cells, set_v, set_c, in_box, held, Chooser, new, Took, took, missing, with_t, taken_box, more, onto, opening, stays, last}
 use Rattle.owned.specs.Machine.{Frame, Mach, going, stopped, push, and_m, num_m, turn_m, hand_m, enter_m}
 
 -- what is in a cell, if it is that of the box with stamp b

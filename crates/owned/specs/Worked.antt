@@ -1,6 +1,6 @@
 -- Worked programs: what the definitions say of them.
-use Rattle.std.specs.Prelude.{◌≡◌, ℕ, true, false, List, [], ◌∷◌, length}
-use Rattle.owned.specs.Program.{E, Arg, S, Sig, Proc, Prog}
+use Rattle.std.specs.Prelude.{◌≡◌, ℕ, true, false, [], ◌∷◌, length}
+use Rattle.owned.specs.Program.{E, S, Proc, Prog}
 use Rattle.owned.specs.Runs.{n, St, R, fine, fault, full, spent, deep, run, used}
 use Rattle.owned.specs.Kept.{kept}
 use Rattle.owned.specs.Rows.{row_ps}

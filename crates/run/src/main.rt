@@ -1,3 +1,5 @@
+#![tactic(auto)]
+
 use anyhow::anyhow;
 use input::read_numbers;
 use interpreter::{Ran, go};

@@ -1,3 +1,5 @@
+#![tactic(auto)]
+
 use anyhow::anyhow;
 use input::Numbers;
 use owned::{Judged, MAX_WORDS, judge};

@@ -7,6 +7,6 @@ loop-place-preserved c =
 
 pub returns : goal.returns
 returns c = record {
-  enters = c.loop-place.invariant.1 _ (entered_here c.args.rows.now c.loop-place.place c.statement-head.result c.in-default.not-Then c.statement-head.ensures);
+  enters = c.loop-place.invariant.1 _ (entered_here c.args.rows.now c.loop-place.place c.statement_head.result c.in_default.not-Then c.statement_head.ensures);
   near = inside c.args.rows.now c.loop-place.place c.loop-place.invariant.0;
 }

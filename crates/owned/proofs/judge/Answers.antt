@@ -5,17 +5,17 @@ use Rattle.owned.proofs.judge.Goals as goal
 pub returns-then-not-enough : goal.returns-then-not-enough
 returns-then-not-enough c = few_post c.args.program.now (length c.args.work.now) c.if-not-enough.ensures
 
-pub returns-then-program-gt-MAX-WORDS : goal.returns-then-program-gt-MAX-WORDS
-returns-then-program-gt-MAX-WORDS c = long_post c.args.program.now (length c.args.work.now) c.if-not-enough.ensures c.if-program-gt-MAX-WORDS.true
+pub returns-then-program-gt-MAX_WORDS : goal.returns-then-program-gt-MAX_WORDS
+returns-then-program-gt-MAX_WORDS c = long_post c.args.program.now (length c.args.work.now) c.if-not-enough.ensures c.if-program-gt-MAX_WORDS.true
 
-pub returns-in-default : goal.returns-in-default
-returns-in-default c = unread_post c.args.program.now (length c.args.work.now) c.if-not-enough.ensures c.in-default.ensures
+pub returns-in_default : goal.returns-in_default
+returns-in_default c = unread_post c.args.program.now (length c.args.work.now) c.if-not-enough.ensures c.in_default.ensures
 
-pub keeps-rules-requires : goal.keeps-rules-requires
-keeps-rules-requires c = (c.if-program-gt-MAX-WORDS.false, fine c.args.program.now (length c.args.work.now) c.if-not-enough.ensures c.if-program-gt-MAX-WORDS.false c.procedures.new.starts c.in-Some.count c.in-Some.ensures _ (omega arith))
+pub keeps_rules-requires : goal.keeps_rules-requires
+keeps_rules-requires c = (c.if-program-gt-MAX_WORDS.false, fine c.args.program.now (length c.args.work.now) c.if-not-enough.ensures c.if-program-gt-MAX_WORDS.false c.procedures.new.starts c.in-Some.count c.in-Some.ensures _ (omega arith))
 
-pub returns-then-keeps-rules : goal.returns-then-keeps-rules
-returns-then-keeps-rules c = keeps_post c.args.program.now (length c.args.work.now) c.if-not-enough.ensures c.if-program-gt-MAX-WORDS.false c.procedures.new.starts c.in-Some.count c.in-Some.ensures _ (omega arith) c.if-keeps-rules.ensures
+pub returns-then-keeps_rules : goal.returns-then-keeps_rules
+returns-then-keeps_rules c = keeps_post c.args.program.now (length c.args.work.now) c.if-not-enough.ensures c.if-program-gt-MAX_WORDS.false c.procedures.new.starts c.in-Some.count c.in-Some.ensures _ (omega arith) c.if-keeps_rules.ensures
 
-pub returns-else-keeps-rules : goal.returns-else-keeps-rules
-returns-else-keeps-rules c = careless_post c.args.program.now (length c.args.work.now) c.if-not-enough.ensures c.if-program-gt-MAX-WORDS.false c.procedures.new.starts c.in-Some.count c.in-Some.ensures _ (omega arith) c.if-keeps-rules.ensures
+pub returns-else-keeps_rules : goal.returns-else-keeps_rules
+returns-else-keeps_rules c = careless_post c.args.program.now (length c.args.work.now) c.if-not-enough.ensures c.if-program-gt-MAX_WORDS.false c.procedures.new.starts c.in-Some.count c.in-Some.ensures _ (omega arith) c.if-keeps_rules.ensures

@@ -7,7 +7,7 @@ pub returns-else-at : goal.returns-else-at
 returns-else-at c =
     record {
       value = c.grow-self.ensures;
-      len = c.saturating-add-self.ensures;
+      len = c.saturating_add-self.ensures;
       kept = sym (set_past c.args.self.now.kept c.args.self.now.len c.args.byte (omega arith));
       line = refl;
       column = refl;

@@ -6,69 +6,69 @@ use Rattle.linker.proofs.Linker.+mark.Goals as goal
 
 pub mark-second-requires : goal.mark-second-requires
 mark-second-requires t c =
-    let p = c.mark-parts-first.ensures.marks in
-    let r = ready (code c.args.self.now) (code c.mark-parts-first.new.self) c.args.at c.mark-parts-first.result p c.requires.0 c.statement-head-head.result c.statement-head-head.ensures c.requires.1 in (
+    let p = c.mark_parts-first.ensures.marks in
+    let r = ready (code c.args.self.now) (code c.mark_parts-first.new.self) c.args.at c.mark_parts-first.result p c.requires.0 c.statement_head-head.result c.statement_head-head.ensures c.requires.1 in (
       omega (arith, p.parts.later, p.parts.near, ap length p.within.below.rows),
       (
-        room_stays _ _ _ _ (wrote_inner (code c.mark-parts-first.new.self) c.args.at c.mark-parts-first.result) r.room,
-        stands_one (code c.mark-parts-first.new.self) c.args.at c.mark-parts-first.result c.statement-head-head.result r c.in-Then.is,
+        room_stays _ _ _ _ (wrote_inner (code c.mark_parts-first.new.self) c.args.at c.mark_parts-first.result) r.room,
+        stands_one (code c.mark_parts-first.new.self) c.args.at c.mark_parts-first.result c.statement_head-head.result r c.in-Then.is,
       ),
     )
 
 pub mark-requires : goal.mark-requires
 mark-requires t c =
-    let p = c.mark-parts-first.ensures.marks in
+    let p = c.mark_parts-first.ensures.marks in
     let m = c.mark-second.ensures.marks in
-    let r = ready (code c.args.self.now) (code c.mark-parts-first.new.self) c.args.at c.mark-parts-first.result p c.requires.0 c.statement-head-head.result c.statement-head-head.ensures c.requires.1 in (
+    let r = ready (code c.args.self.now) (code c.mark_parts-first.new.self) c.args.at c.mark_parts-first.result p c.requires.0 c.statement_head-head.result c.statement_head-head.ensures c.requires.1 in (
       omega (arith, p.parts.later, p.parts.near, ap length p.within.below.rows, m.later, ap length m.within.below.rows),
       (
-        room_two (code c.mark-parts-first.new.self) c.args.at c.mark-parts-first.result c.statement-head-head.result r c.in-Then.is _ _ m,
-        stands_two (code c.mark-parts-first.new.self) c.args.at c.mark-parts-first.result c.statement-head-head.result r c.in-Then.is _ _ m,
+        room_two (code c.mark_parts-first.new.self) c.args.at c.mark_parts-first.result c.statement_head-head.result r c.in-Then.is _ _ m,
+        stands_two (code c.mark_parts-first.new.self) c.args.at c.mark_parts-first.result c.statement_head-head.result r c.in-Then.is _ _ m,
       ),
     )
 
 pub returns-in-Then : goal.returns-in-Then
 returns-in-Then t c =
-    let x = c.mark-parts-first.ensures.held in
+    let x = c.mark_parts-first.ensures.held in
     let y = c.mark-second.ensures.held in
     let z = c.mark.ensures.held in
-    let p = c.mark-parts-first.ensures.marks in
-    let r = ready (code c.args.self.now) (code c.mark-parts-first.new.self) c.args.at c.mark-parts-first.result p c.requires.0 c.statement-head-head.result c.statement-head-head.ensures c.requires.1 in
+    let p = c.mark_parts-first.ensures.marks in
+    let r = ready (code c.args.self.now) (code c.mark_parts-first.new.self) c.args.at c.mark_parts-first.result p c.requires.0 c.statement_head-head.result c.statement_head-head.ensures c.requires.1 in
     record {
-      marks = after (code c.args.self.now) (code c.mark-parts-first.new.self) c.args.at c.mark-parts-first.result p c.statement-head-head.result r (code c.mark.new.self) c.mark.result
-          (mark_two (code c.mark-parts-first.new.self) c.args.at c.mark-parts-first.result c.statement-head-head.result r c.in-Then.is (code c.mark-second.new.self) c.mark-second.result c.mark-second.ensures.marks (code c.mark.new.self) c.mark.result c.mark.ensures.marks);
+      marks = after (code c.args.self.now) (code c.mark_parts-first.new.self) c.args.at c.mark_parts-first.result p c.statement_head-head.result r (code c.mark.new.self) c.mark.result
+          (mark_two (code c.mark_parts-first.new.self) c.args.at c.mark_parts-first.result c.statement_head-head.result r c.in-Then.is (code c.mark-second.new.self) c.mark-second.result c.mark-second.ensures.marks (code c.mark.new.self) c.mark.result c.mark.ensures.marks);
       held = record { follow = z.follow ∙ y.follow ∙ x.follow; inner = z.inner ∙ y.inner ∙ x.inner; other = z.other ∙ y.other ∙ x.other; procs = z.procs ∙ y.procs ∙ x.procs };
     }
 
 pub mark-requires-in-While : goal.mark-requires-in-While
 mark-requires-in-While t c =
-    let p = c.mark-parts-first.ensures.marks in
-    let r = ready (code c.args.self.now) (code c.mark-parts-first.new.self) c.args.at c.mark-parts-first.result p c.requires.0 c.statement-head-head.result c.statement-head-head.ensures c.requires.1 in (
+    let p = c.mark_parts-first.ensures.marks in
+    let r = ready (code c.args.self.now) (code c.mark_parts-first.new.self) c.args.at c.mark_parts-first.result p c.requires.0 c.statement_head-head.result c.statement_head-head.ensures c.requires.1 in (
       omega (arith, p.parts.later, p.parts.near, ap length p.within.below.rows),
       (
-        room_stays _ _ _ _ (wrote_inner (code c.mark-parts-first.new.self) c.args.at c.mark-parts-first.result) r.room,
-        stands_body (code c.mark-parts-first.new.self) c.args.at c.mark-parts-first.result c.statement-head-head.result r c.in-While.is,
+        room_stays _ _ _ _ (wrote_inner (code c.mark_parts-first.new.self) c.args.at c.mark_parts-first.result) r.room,
+        stands_body (code c.mark_parts-first.new.self) c.args.at c.mark_parts-first.result c.statement_head-head.result r c.in-While.is,
       ),
     )
 
 pub returns-in-While : goal.returns-in-While
 returns-in-While t c =
-    let x = c.mark-parts-first.ensures.held in
+    let x = c.mark_parts-first.ensures.held in
     let y = c.mark-in-While.ensures.held in
-    let p = c.mark-parts-first.ensures.marks in
-    let r = ready (code c.args.self.now) (code c.mark-parts-first.new.self) c.args.at c.mark-parts-first.result p c.requires.0 c.statement-head-head.result c.statement-head-head.ensures c.requires.1 in
+    let p = c.mark_parts-first.ensures.marks in
+    let r = ready (code c.args.self.now) (code c.mark_parts-first.new.self) c.args.at c.mark_parts-first.result p c.requires.0 c.statement_head-head.result c.statement_head-head.ensures c.requires.1 in
     record {
-      marks = after (code c.args.self.now) (code c.mark-parts-first.new.self) c.args.at c.mark-parts-first.result p c.statement-head-head.result r (code c.mark-in-While.new.self) c.mark-in-While.result
-          (mark_while (code c.mark-parts-first.new.self) c.args.at c.mark-parts-first.result c.statement-head-head.result r c.in-While.is (code c.mark-in-While.new.self) c.mark-in-While.result c.mark-in-While.ensures.marks);
+      marks = after (code c.args.self.now) (code c.mark_parts-first.new.self) c.args.at c.mark_parts-first.result p c.statement_head-head.result r (code c.mark-in-While.new.self) c.mark-in-While.result
+          (mark_while (code c.mark_parts-first.new.self) c.args.at c.mark_parts-first.result c.statement_head-head.result r c.in-While.is (code c.mark-in-While.new.self) c.mark-in-While.result c.mark-in-While.ensures.marks);
       held = record { follow = y.follow ∙ x.follow; inner = y.inner ∙ x.inner; other = y.other ∙ x.other; procs = y.procs ∙ x.procs };
     }
 
-pub returns-in-default : goal.returns-in-default
-returns-in-default t c =
-    let p = c.mark-parts-first.ensures.marks in
-    let r = ready (code c.args.self.now) (code c.mark-parts-first.new.self) c.args.at c.mark-parts-first.result p c.requires.0 c.statement-head-head.result c.statement-head-head.ensures c.requires.1 in
+pub returns-in_default : goal.returns-in_default
+returns-in_default t c =
+    let p = c.mark_parts-first.ensures.marks in
+    let r = ready (code c.args.self.now) (code c.mark_parts-first.new.self) c.args.at c.mark_parts-first.result p c.requires.0 c.statement_head-head.result c.statement_head-head.ensures c.requires.1 in
     record {
-      marks = after (code c.args.self.now) (code c.mark-parts-first.new.self) c.args.at c.mark-parts-first.result p c.statement-head-head.result r (code c.mark-parts-first.new.self) c.mark-parts-first.result
-          (mark_leaf (code c.mark-parts-first.new.self) c.args.at c.mark-parts-first.result c.statement-head-head.result r c.in-default.not-Then c.in-default.not-If c.in-default.not-While);
-      held = c.mark-parts-first.ensures.held;
+      marks = after (code c.args.self.now) (code c.mark_parts-first.new.self) c.args.at c.mark_parts-first.result p c.statement_head-head.result r (code c.mark_parts-first.new.self) c.mark_parts-first.result
+          (mark_leaf (code c.mark_parts-first.new.self) c.args.at c.mark_parts-first.result c.statement_head-head.result r c.in_default.not-Then c.in_default.not-If c.in_default.not-While);
+      held = c.mark_parts-first.ensures.held;
     }

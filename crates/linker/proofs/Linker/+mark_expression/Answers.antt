@@ -5,31 +5,31 @@ use Rattle.linker.proofs.Stands.{stands_left}
 use Rattle.linker.proofs.Operands.{mark_alone, room_right, there_right, mark_binary}
 use Rattle.linker.proofs.Linker.+mark_expression.Goals as goal
 
-pub mark-expression-right-requires : goal.mark-expression-right-requires
-mark-expression-right-requires t c = (
+pub mark_expression-right-requires : goal.mark_expression-right-requires
+mark_expression-right-requires t c = (
   omega (arith, inside_e c.args.self.now.rows.now c.args.at c.requires.1),
   (c.requires.0, stands_left c.args.self.now.rows.now c.args.at _ c.in-Binary.ensures c.requires.1),
 )
 
-pub mark-expression-requires : goal.mark-expression-requires
-mark-expression-requires t c =
-    let m = c.mark-expression-right.ensures.marks in (
+pub mark_expression-requires : goal.mark_expression-requires
+mark_expression-requires t c =
+    let m = c.mark_expression-right.ensures.marks in (
       omega (arith, inside_e c.args.self.now.rows.now c.args.at c.requires.1, m.later, ap length m.within.below.rows),
       (room_right (code c.args.self.now) c.requires.0 c.args.at _ c.in-Binary.ensures _ _ m, there_right (code c.args.self.now) c.requires.0 c.args.at _ c.in-Binary.ensures _ _ m c.requires.1),
     )
 
 pub returns-in-Binary : goal.returns-in-Binary
 returns-in-Binary t c =
-    let a = c.mark-expression-right.ensures.held in
-    let b = c.mark-expression.ensures.held in
+    let a = c.mark_expression-right.ensures.held in
+    let b = c.mark_expression.ensures.held in
     record {
-      marks = mark_binary (code c.args.self.now) c.requires.0 c.args.at _ c.in-Binary.ensures (code c.mark-expression-right.new.self) c.mark-expression-right.result c.mark-expression-right.ensures.marks (code c.mark-expression.new.self) c.mark-expression.result c.mark-expression.ensures.marks;
+      marks = mark_binary (code c.args.self.now) c.requires.0 c.args.at _ c.in-Binary.ensures (code c.mark_expression-right.new.self) c.mark_expression-right.result c.mark_expression-right.ensures.marks (code c.mark_expression.new.self) c.mark_expression.result c.mark_expression.ensures.marks;
       held = record { follow = b.follow ∙ a.follow; inner = b.inner ∙ a.inner; other = b.other ∙ a.other; procs = b.procs ∙ a.procs };
     }
 
-pub returns-in-default : goal.returns-in-default
-returns-in-default t c =
+pub returns-in_default : goal.returns-in_default
+returns-in_default t c =
     record {
-      marks = mark_alone (code c.args.self.now) c.args.at c.expression-head.result c.in-default.not-Binary c.expression-head.ensures;
+      marks = mark_alone (code c.args.self.now) c.args.at c.expression_head.result c.in_default.not-Binary c.expression_head.ensures;
       held = record { follow = refl; inner = refl; other = refl; procs = refl };
     }

@@ -3,4 +3,4 @@ use Rattle.owned.proofs.Ends.{Rest}
 use Rattle.owned.proofs.decode.arguments_end.Given as goal
 
 abbrev pub invariant-loop-i : goal.invariant-loop-i
-invariant-loop-i l = Rest l.rows read_a l.n l.at l.-i l.end
+invariant-loop-i l = Rest l.rows read_a l.n l.at l._i l.end

@@ -4,4 +4,4 @@ use Rattle.owned.proofs.Ends.{Rest}
 use Rattle.owned.proofs.procs.words_end.Given as goal
 
 abbrev pub invariant-loop-i : goal.invariant-loop-i
-invariant-loop-i l = Rest l.rows (below1 (l.most + 1)) l.n l.at l.-i l.end
+invariant-loop-i l = Rest l.rows (below1 (l.most + 1)) l.n l.at l._i l.end

@@ -1,6 +1,4 @@
-use Rattle.std.proofs.Common.{sym}
-use Rattle.owned.specs.Views.{seen}
-use Rattle.owned.proofs.Whole.{starts_none, starts_first}
+use Rattle.owned.proofs.Whole.{starts_none}
 use Rattle.owned.proofs.rules.starts_well.Goals as goal
 
 pub returns-then-starts-eq0 : goal.returns-then-starts-eq0

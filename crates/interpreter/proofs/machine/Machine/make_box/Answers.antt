@@ -8,8 +8,8 @@ take-word-requires c = box_take c.requires
 pub allocate-requires : goal.allocate-requires
 allocate-requires c = box_heap c.take-word.ensures c.requires
 
-pub returns-in-default : goal.returns-in-default
-returns-in-default c = record { here = c.in-default.ensures.here ∙ c.take-word.ensures.here; done = box_full c.take-word.ensures c.in-default.ensures.made }
+pub returns-in_default : goal.returns-in_default
+returns-in_default c = record { here = c.in_default.ensures.here ∙ c.take-word.ensures.here; done = box_full c.take-word.ensures c.in_default.ensures.made }
 
 pub put-requires : goal.put-requires
 put-requires c = box_put c.take-word.ensures c.in-Some.ensures.here c.in-Some.ensures.made c.requires

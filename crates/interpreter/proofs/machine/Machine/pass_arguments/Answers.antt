@@ -9,14 +9,14 @@ loop-i-init c = pass_start (omega (arith, c.requires.room))
 pub argument-word-requires : goal.argument-word-requires
 argument-word-requires c = record { room = pass_room c.loop-i.invariant c.loop-i-test.true c.requires; can = pass_can c.loop-i.invariant c.loop-i-test.true c.requires }
 
-pub store-next-requires : goal.store-next-requires
-store-next-requires c = pass_store c.loop-i.invariant c.loop-i-test.true c.argument-word.ensures c.requires
+pub store_next-requires : goal.store_next-requires
+store_next-requires c = pass_store c.loop-i.invariant c.loop-i-test.true c.argument-word.ensures c.requires
 
-pub overflow-add-at : goal.overflow-add-at
-overflow-add-at c = omega (arith, ap (λ (z : Control). length z.code.rows) c.loop-i.invariant.here, pass_room c.loop-i.invariant c.loop-i-test.true c.requires)
+pub overflow_add-at : goal.overflow_add-at
+overflow_add-at c = omega (arith, ap (λ (z : Control). length z.code.rows) c.loop-i.invariant.here, pass_room c.loop-i.invariant c.loop-i-test.true c.requires)
 
 pub loop-i-preserved : goal.loop-i-preserved
-loop-i-preserved c = pass_more c.loop-i.invariant c.loop-i-test.true c.argument-word.ensures c.store-next.ensures.here c.store-next.ensures.stored c.requires
+loop-i-preserved c = pass_more c.loop-i.invariant c.loop-i-test.true c.argument-word.ensures c.store_next.ensures.here c.store_next.ensures.stored c.requires
 
 pub returns : goal.returns
 returns c = pass_end c.loop-i.invariant (omega arith)

@@ -3,23 +3,23 @@ use Rattle.interpreter.proofs.Releasing.{nothing_held}
 use Rattle.interpreter.proofs.Variables.{put_var, put_kind, put_releases, put_room, put_done}
 use Rattle.interpreter.proofs.machine.Machine.put.Goals as goal
 
-pub kind-of-kind-requires : goal.kind-of-kind-requires
-kind-of-kind-requires c = put_kind c.requires
+pub kind_of-kind-requires : goal.kind_of-kind-requires
+kind_of-kind-requires c = put_kind c.requires
 
 pub load-old-requires : goal.load-old-requires
 load-old-requires c = put_var c.requires
 
 pub release-requires : goal.release-requires
-release-requires c = put_releases c.kind-of-kind.ensures c.load-old.ensures c.requires
+release-requires c = put_releases c.kind_of-kind.ensures c.load-old.ensures c.requires
 
 pub store-requires : goal.store-requires
 store-requires c = put_var c.requires
 
 pub returns-then-kind-eq0 : goal.returns-then-kind-eq0
-returns-then-kind-eq0 c = put_done c.kind-of-kind.ensures refl refl (nothing_held (λ l w. omega arith)) c.store.ensures.here c.store.ensures.stored
+returns-then-kind-eq0 c = put_done c.kind_of-kind.ensures refl refl (nothing_held (λ l w. omega arith)) c.store.ensures.here c.store.ensures.stored
 
 pub store-requires-2 : goal.store-requires-2
-store-requires-2 c = put_room c.kind-of-kind.ensures c.load-old.ensures c.release.ensures.here c.release.ensures.released c.requires
+store-requires-2 c = put_room c.kind_of-kind.ensures c.load-old.ensures c.release.ensures.here c.release.ensures.released c.requires
 
 pub returns : goal.returns
-returns c = put_done c.kind-of-kind.ensures c.load-old.ensures c.release.ensures.here c.release.ensures.released c.store-2.ensures.here c.store-2.ensures.stored
+returns c = put_done c.kind_of-kind.ensures c.load-old.ensures c.release.ensures.here c.release.ensures.released c.store-2.ensures.here c.store-2.ensures.stored

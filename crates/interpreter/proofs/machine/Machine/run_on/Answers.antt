@@ -9,8 +9,8 @@ loop-next-init g c = (run_start, c.requires.at)
 pub step-requires : goal.step-requires
 step-requires g c = record { at = c.loop-next.invariant.1; can = run_step c.loop-next.invariant.0 c.requires.can }
 
-pub overflow-sub-left : goal.overflow-sub-left
-overflow-sub-left g c = run_left c.loop-next.invariant.0 c.requires.can
+pub overflow_sub-left : goal.overflow_sub-left
+overflow_sub-left g c = run_left c.loop-next.invariant.0 c.requires.can
 
 pub returns-in-Done : goal.returns-in-Done
 returns-in-Done g c = record { came = run_done c.loop-next.invariant.0 (control c.step.new.self) (memory c.step.new.self) c.in-Done.result c.in-Done.ensures.advanced; kept = kept_on c.loop-next.invariant.0.kept c.in-Done.ensures.kept }

@@ -5,4 +5,4 @@ pub value-word-requires : goal.value-word-requires
 value-word-requires c = show_can c.requires
 
 pub returns : goal.returns
-returns c = show_done c.value-word.ensures c.write-number.ensures.here c.write-number.ensures.same
+returns c = show_done c.value-word.ensures c.write_number.ensures.here c.write_number.ensures.same

@@ -15,8 +15,8 @@ returns-in-Err c = record { advanced = executed_halt (omega arith) (control c.ex
 pub leave-requires : goal.leave-requires
 leave-requires c = step_leave (omega arith) (omega arith) c.requires.can
 
-pub returns-then-self-gt-FRAME-WORDS : goal.returns-then-self-gt-FRAME-WORDS
-returns-then-self-gt-FRAME-WORDS c = record { advanced = left_on (omega arith) (omega arith) c.leave.result c.leave.ensures.stepped; kept = c.leave.ensures.kept; next = c.leave.ensures.next }
+pub returns-then-self-gt-FRAME_WORDS : goal.returns-then-self-gt-FRAME_WORDS
+returns-then-self-gt-FRAME_WORDS c = record { advanced = left_on (omega arith) (omega arith) c.leave.result c.leave.ensures.stepped; kept = c.leave.ensures.kept; next = c.leave.ensures.next }
 
 pub finish-requires : goal.finish-requires
 finish-requires c = step_finish (omega arith) (omega arith) c.requires.can

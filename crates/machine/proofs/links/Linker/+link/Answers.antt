@@ -3,14 +3,14 @@ use Rattle.machine.specs.Links.{code}
 use Rattle.machine.proofs.Linking.{stands, inside_rows, link_leaf, pair_first, pair_other, pair_second, link_pair, branch_there, branch_first, branch_second, link_branch, body_there, loop_body, link_loop}
 use Rattle.machine.proofs.links.Linker.+link.Goals as goal
 
-pub offset-bounds-self-at : goal.offset-bounds-self-at
-offset-bounds-self-at t c = omega (arith, inside_rows (code c.args.self.now) c.args.at c.requires.1.0, c.requires.0.rows)
+pub offset_bounds-self-at : goal.offset_bounds-self-at
+offset_bounds-self-at t c = omega (arith, inside_rows (code c.args.self.now) c.args.at c.requires.1.0, c.requires.0.rows)
 
 pub bounds-self-at : goal.bounds-self-at
 bounds-self-at t c = omega (arith, inside_rows (code c.args.self.now) c.args.at c.requires.1.0, c.requires.0.inner)
 
-pub offset-bounds-self-at-2 : goal.offset-bounds-self-at-2
-offset-bounds-self-at-2 t c = omega (arith, inside_rows (code c.args.self.now) c.args.at c.requires.1.0, c.requires.0.rows)
+pub offset_bounds-self-at-2 : goal.offset_bounds-self-at-2
+offset_bounds-self-at-2 t c = omega (arith, inside_rows (code c.args.self.now) c.args.at c.requires.1.0, c.requires.0.rows)
 
 pub bounds-self-at-2 : goal.bounds-self-at-2
 bounds-self-at-2 t c = omega (arith, inside_rows (code c.args.self.now) c.args.at c.requires.1.0, c.requires.0.other)
@@ -86,9 +86,9 @@ returns-in-While t c =
     }
 
 -- a statement without parts
-pub returns-in-default : goal.returns-in-default
-returns-in-default t c =
+pub returns-in_default : goal.returns-in_default
+returns-in_default t c =
     record {
-      links = link_leaf (code c.args.self.now) c.args.at c.args.next c.statement.result (omega (arith, inside_rows (code c.args.self.now) c.args.at c.requires.1.0, c.requires.0.follow)) c.statement.ensures c.in-default.not-Then c.in-default.not-If c.in-default.not-While;
+      links = link_leaf (code c.args.self.now) c.args.at c.args.next c.statement.result (omega (arith, inside_rows (code c.args.self.now) c.args.at c.requires.1.0, c.requires.0.follow)) c.statement.ensures c.in_default.not-Then c.in_default.not-If c.in_default.not-While;
       held = record { follow = refl; inner = refl; other = refl; procs = refl };
     }

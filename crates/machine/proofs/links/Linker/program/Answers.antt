@@ -12,8 +12,8 @@ procedure-at-requires c =
     let u = next_stands c.args.self.now.rows.now (code c.loop-at.self) c.loop-at.f c.loop-at.at h (omega (arith, ap length h.rows)) c.requires.1 in
     (u.0, (h.room, (omega arith, u.1)))
 
-pub overflow-add-f : goal.overflow-add-f
-overflow-add-f c =
+pub overflow_add-f : goal.overflow_add-f
+overflow_add-f c =
     let h = c.loop-at.invariant.0 in
     omega (arith, (next_stands c.args.self.now.rows.now (code c.loop-at.self) c.loop-at.f c.loop-at.at h (omega (arith, ap length h.rows)) c.requires.1).0)
 

@@ -1,4 +1,4 @@
-use Rattle.std.proofs.Common.{◌≡◌, refl, arith}
+use Rattle.std.proofs.Common.{arith}
 use Rattle.machine.specs.Memory.{control, memory}
 use Rattle.machine.proofs.Evaluating.{leaf_room, can_left, can_right, past_left, both_done}
 use Rattle.machine.proofs.machine.Machine.+nested_operand.Goals as goal

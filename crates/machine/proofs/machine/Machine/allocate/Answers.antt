@@ -1,4 +1,4 @@
-use Rattle.std.proofs.Common.{◌≡◌, refl}
+use Rattle.std.proofs.Common.{refl}
 use Rattle.machine.proofs.Releasing.{cell_made}
 use Rattle.machine.proofs.machine.Machine.allocate.Goals as goal
 

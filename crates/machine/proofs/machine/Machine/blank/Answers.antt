@@ -1,4 +1,4 @@
-use Rattle.std.proofs.Common.{◌≡◌, refl, ap, ◌∙◌, arith}
+use Rattle.std.proofs.Common.{refl, ap, ◌∙◌, arith}
 use Rattle.machine.specs.Memory.{Control}
 use Rattle.machine.proofs.Opening.{blank_start, blank_room, blank_more, blank_end}
 use Rattle.machine.proofs.machine.Machine.blank.Goals as goal

@@ -1,4 +1,4 @@
-use Rattle.std.proofs.Common.{refl, arith}
+use Rattle.std.proofs.Common.{refl}
 use Rattle.machine.proofs.Branching.{kept_same, if_can, if_tables, if_first, if_second}
 use Rattle.machine.proofs.machine.Machine.branch.Goals as goal
 

@@ -2,23 +2,23 @@ use Rattle.std.proofs.Common.{refl}
 use Rattle.machine.proofs.Performing.{fill_point, fill_take, fill_kind, fill_room, fill_release, fill_index, fill_done}
 use Rattle.machine.proofs.machine.Machine.fill_box.Goals as goal
 
-pub cell-of-cell-requires : goal.cell-of-cell-requires
-cell-of-cell-requires c = fill_point c.requires
+pub cell_of-cell-requires : goal.cell_of-cell-requires
+cell_of-cell-requires c = fill_point c.requires
 
 pub take-word-requires : goal.take-word-requires
 take-word-requires c = fill_take c.requires
 
-pub kind-of-kind-requires : goal.kind-of-kind-requires
-kind-of-kind-requires c = fill_kind c.cell-of-cell.ensures c.take-word.ensures c.requires
+pub kind_of-kind-requires : goal.kind_of-kind-requires
+kind_of-kind-requires c = fill_kind c.cell_of-cell.ensures c.take-word.ensures c.requires
 
 pub bounds-self-cell : goal.bounds-self-cell
-bounds-self-cell c = fill_room c.cell-of-cell.ensures c.take-word.ensures c.requires
+bounds-self-cell c = fill_room c.cell_of-cell.ensures c.take-word.ensures c.requires
 
 pub release-requires : goal.release-requires
-release-requires c = fill_release c.cell-of-cell.ensures c.take-word.ensures c.kind-of-kind.ensures c.requires
+release-requires c = fill_release c.cell_of-cell.ensures c.take-word.ensures c.kind_of-kind.ensures c.requires
 
 pub bounds-self-cell-2 : goal.bounds-self-cell-2
-bounds-self-cell-2 c = fill_index c.cell-of-cell.ensures c.take-word.ensures c.kind-of-kind.ensures c.release.ensures.here c.release.ensures.released c.requires
+bounds-self-cell-2 c = fill_index c.cell_of-cell.ensures c.take-word.ensures c.kind_of-kind.ensures c.release.ensures.here c.release.ensures.released c.requires
 
 pub returns : goal.returns
-returns c = fill_done c.cell-of-cell.ensures c.take-word.ensures c.kind-of-kind.ensures c.release.ensures.here c.release.ensures.released refl refl
+returns c = fill_done c.cell_of-cell.ensures c.take-word.ensures c.kind_of-kind.ensures c.release.ensures.here c.release.ensures.released refl refl

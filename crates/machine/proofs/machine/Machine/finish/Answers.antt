@@ -1,4 +1,4 @@
-use Rattle.std.proofs.Common.{◌≡◌, ◌+◌, ◌/◌, sym, refl, subst, inl, inr, arith}
+use Rattle.std.proofs.Common.{◌+◌, ◌/◌, sym, refl, subst, inl, inr, arith}
 use Rattle.machine.specs.Memory.{control, memory}
 use Rattle.machine.proofs.Closing.{CloseSofar, close_start, close_end, close_unmarked, close_kind, close_var, close_release, close_marked}
 use Rattle.machine.proofs.machine.Machine.finish.Goals.{then-mask-eq1, else-mask-eq1}
@@ -7,19 +7,19 @@ use Rattle.machine.proofs.machine.Machine.finish.Goals as goal
 pub loop-x-init : goal.loop-x-init
 loop-x-init c = close_start refl refl
 
-pub kind-of-kind-requires : goal.kind-of-kind-requires
-kind-of-kind-requires c = close_kind refl c.loop-x.invariant c.loop-x-test.true c.if-mask-eq1.true c.requires
+pub kind_of-kind-requires : goal.kind_of-kind-requires
+kind_of-kind-requires c = close_kind refl c.loop-x.invariant c.loop-x-test.true c.if-mask-eq1.true c.requires
 
 pub load-word-requires : goal.load-word-requires
 load-word-requires c = close_var refl c.loop-x.invariant c.loop-x-test.true c.if-mask-eq1.true c.requires
 
 pub release-requires : goal.release-requires
-release-requires c = close_release refl c.loop-x.invariant c.loop-x-test.true c.if-mask-eq1.true c.kind-of-kind.ensures c.load-word.ensures c.requires
+release-requires c = close_release refl c.loop-x.invariant c.loop-x-test.true c.if-mask-eq1.true c.kind_of-kind.ensures c.load-word.ensures c.requires
 
 pub loop-x-preserved : goal.loop-x-preserved
 loop-x-preserved c =
     elim c.if-mask-eq1.branch [
-      | then-mask-eq1 w ↦ subst (λ z. CloseSofar (control c.args.self.now) (memory c.args.self.now) (control z) (memory z) (c.loop-x.x + 1) (c.loop-x.mask / 2)) (sym w.self-is) (close_marked refl c.loop-x.invariant c.loop-x-test.true w.if-mask-eq1.true w.kind-of-kind.ensures w.load-word.ensures w.release.ensures.here w.release.ensures.released)
+      | then-mask-eq1 w ↦ subst (λ z. CloseSofar (control c.args.self.now) (memory c.args.self.now) (control z) (memory z) (c.loop-x.x + 1) (c.loop-x.mask / 2)) (sym w.self-is) (close_marked refl c.loop-x.invariant c.loop-x-test.true w.if-mask-eq1.true w.kind_of-kind.ensures w.load-word.ensures w.release.ensures.here w.release.ensures.released)
       | else-mask-eq1 w ↦ subst (λ z. CloseSofar (control c.args.self.now) (memory c.args.self.now) (control z) (memory z) (c.loop-x.x + 1) (c.loop-x.mask / 2)) (sym w.self-is) (close_unmarked refl c.loop-x.invariant c.loop-x-test.true w.if-mask-eq1.false)
     ]
 

@@ -1,4 +1,4 @@
-use Rattle.std.proofs.Common.{◌≡◌, refl}
+use Rattle.std.proofs.Common.{refl}
 use Rattle.machine.proofs.Returning.{leave_finish, leave_result, leave_resume, leave_put, leave_done, leave_kept}
 use Rattle.machine.proofs.machine.Machine.leave.Goals as goal
 

@@ -1,14 +1,14 @@
 use Rattle.machine.proofs.Performing.{look_point, look_cell, look_there, look_done}
 use Rattle.machine.proofs.machine.Machine.look_into.Goals as goal
 
-pub cell-of-cell-requires : goal.cell-of-cell-requires
-cell-of-cell-requires c = look_point c.requires
+pub cell_of-cell-requires : goal.cell_of-cell-requires
+cell_of-cell-requires c = look_point c.requires
 
 pub bounds-self-cell : goal.bounds-self-cell
-bounds-self-cell c = look_cell c.cell-of-cell.ensures c.requires
+bounds-self-cell c = look_cell c.cell_of-cell.ensures c.requires
 
 pub store-requires : goal.store-requires
-store-requires c = look_there c.cell-of-cell.ensures c.requires
+store-requires c = look_there c.cell_of-cell.ensures c.requires
 
 pub returns : goal.returns
-returns c = look_done c.cell-of-cell.ensures c.store.ensures.here c.store.ensures.stored
+returns c = look_done c.cell_of-cell.ensures c.store.ensures.here c.store.ensures.stored

@@ -1,4 +1,3 @@
-use Rattle.std.proofs.Common.{◌≡◌, ap, ◌∙◌, arith}
 use Rattle.machine.specs.Memory.{control}
 use Rattle.machine.proofs.Opening.{open_room, open_done}
 use Rattle.machine.proofs.machine.Machine.open.Goals as goal

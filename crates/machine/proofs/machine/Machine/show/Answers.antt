@@ -5,4 +5,4 @@ pub operand-word-requires : goal.operand-word-requires
 operand-word-requires c = show_can c.requires
 
 pub returns : goal.returns
-returns c = show_done c.operand-word.ensures c.write-number.ensures.here c.write-number.ensures.same
+returns c = show_done c.operand-word.ensures c.write_number.ensures.here c.write_number.ensures.same

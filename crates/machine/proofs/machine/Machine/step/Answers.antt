@@ -1,20 +1,20 @@
-use Rattle.std.proofs.Common.{◌≡◌, Some, Ok, Err, sym, refl, ap, ◌∙◌, inl, inr, arith}
+use Rattle.std.proofs.Common.{Some, Ok, refl, ap, ◌∙◌, inl, inr}
 use Rattle.machine.specs.Memory.{Control, control, memory}
 use Rattle.machine.proofs.Branching.{kept_same}
 use Rattle.machine.proofs.Stepping.{if_can, if_done, while_can, while_done, call_can, call_many, call_done, on_kept, room_on, transfer_can, transfer_done, transfer_err, drop_can, drop_done, skip_done, no_pair, set_can, set_done, show_can, show_done, show_kept, show_room}
 use Rattle.machine.proofs.machine.Machine.step.Goals as goal
 
-pub set-number-requires : goal.set-number-requires
-set-number-requires c = set_can c.in-Set.x c.in-Set.ensures c.requires
+pub set_number-requires : goal.set_number-requires
+set_number-requires c = set_can c.in-Set.x c.in-Set.ensures c.requires
 
 pub proceed-requires-in-Set : goal.proceed-requires-in-Set
-proceed-requires-in-Set c = room_on c.set-number.ensures.here c.requires
+proceed-requires-in-Set c = room_on c.set_number.ensures.here c.requires
 
 pub transfer-requires : goal.transfer-requires
 transfer-requires c = transfer_can c.in-Between.what c.in-Between.x c.in-Between.y c.in-Between.ensures c.requires
 
-pub drop-value-requires : goal.drop-value-requires
-drop-value-requires c = drop_can c.in-Drop.x c.in-Drop.ensures c.requires
+pub drop_value-requires : goal.drop_value-requires
+drop_value-requires c = drop_can c.in-Drop.x c.in-Drop.ensures c.requires
 
 pub branch-self-requires : goal.branch-self-requires
 branch-self-requires c = if_can c.in-If.ensures c.requires
@@ -38,7 +38,7 @@ returns-in-Skip c = record {
 }
 
 pub returns-in-Set : goal.returns-in-Set
-returns-in-Set c = record { stepped = set_done c.in-Set.x c.in-Set.ensures c.set-number.ensures c.proceed-in-Set.ensures.here c.proceed-in-Set.ensures.same; kept = on_kept c.set-number.ensures.here c.proceed-in-Set.ensures.here }
+returns-in-Set c = record { stepped = set_done c.in-Set.x c.in-Set.ensures c.set_number.ensures c.proceed-in-Set.ensures.here c.proceed-in-Set.ensures.same; kept = on_kept c.set_number.ensures.here c.proceed-in-Set.ensures.here }
 
 pub returns-in-Ok : goal.returns-in-Ok
 returns-in-Ok c = record { stepped = transfer_done c.in-Between.what c.in-Between.x c.in-Between.y c.in-Between.ensures c.in-Ok.ensures.done c.proceed-in-Ok.ensures.here c.proceed-in-Ok.ensures.same; kept = on_kept c.in-Ok.ensures.here c.proceed-in-Ok.ensures.here }
@@ -50,7 +50,7 @@ returns-in-Err c = record {
 }
 
 pub returns-in-Drop : goal.returns-in-Drop
-returns-in-Drop c = record { stepped = drop_done c.in-Drop.x c.in-Drop.ensures c.drop-value.ensures c.proceed-in-Drop.ensures.here c.proceed-in-Drop.ensures.same; kept = on_kept c.drop-value.ensures.here c.proceed-in-Drop.ensures.here }
+returns-in-Drop c = record { stepped = drop_done c.in-Drop.x c.in-Drop.ensures c.drop_value.ensures c.proceed-in-Drop.ensures.here c.proceed-in-Drop.ensures.same; kept = on_kept c.drop_value.ensures.here c.proceed-in-Drop.ensures.here }
 
 pub returns-in-If : goal.returns-in-If
 returns-in-If c = record { stepped = if_done (control c.branch-self.new.self) (memory c.branch-self.new.self) (Ok tt) c.in-If.ensures c.branch-self.ensures.stepped; kept = c.branch-self.ensures.kept }

@@ -8,82 +8,82 @@ use Rattle.owned.proofs.procs.Procedure.+branch_repeat_sequence_statement.Goals 
 pub branch-numbers-requires : goal.branch-numbers-requires
 branch-numbers-requires t c = (c.requires.0, test_there (seen c.args.self.now) c.args.at c.args.full c.requires.1.1 c.requires.1.0)
 
-pub branch-returns-in-err-begin : goal.branch-returns-in-err-begin
-branch-returns-in-err-begin t c =
-    subst (λ o. SaysS (seen c.args.self.now) c.args.at c.args.full o) (sym c.from-residual.ensures)
-    (no_test (seen c.args.self.now) c.args.at c.args.full c.requires.1.1 c.in-err-begin.ensures)
+pub branch-returns-in_err-begin : goal.branch-returns-in_err-begin
+branch-returns-in_err-begin t c =
+    subst (λ o. SaysS (seen c.args.self.now) c.args.at c.args.full o) (sym c.from_residual.ensures)
+    (no_test (seen c.args.self.now) c.args.at c.args.full c.requires.1.1 c.in_err-begin.ensures)
 
 pub branch-statement-requires : goal.branch-statement-requires
 branch-statement-requires t c =
-    let u = then_there (seen c.args.self.now) c.args.at c.args.full c.requires.1.1 _ c.requires.1.0 c.in-ok-begin.ensures in
+    let u = then_there (seen c.args.self.now) c.args.at c.args.full c.requires.1.1 _ c.requires.1.0 c.in_ok-begin.ensures in
     (omega (arith, in_rows (seen c.args.self.now) c.args.at c.requires.1.0, u.later, u.within), (c.requires.0, u.there))
 
-pub branch-returns-in-err-first : goal.branch-returns-in-err-first
-branch-returns-in-err-first t c =
-    subst (λ o. SaysS (seen c.args.self.now) c.args.at c.args.full o) (sym c.from-residual-in-err-first.ensures)
-    (no_then (seen c.args.self.now) c.args.at c.args.full c.requires.1.1 _ c.in-ok-begin.ensures c.in-err-first.ensures)
+pub branch-returns-in_err-first : goal.branch-returns-in_err-first
+branch-returns-in_err-first t c =
+    subst (λ o. SaysS (seen c.args.self.now) c.args.at c.args.full o) (sym c.from_residual-in_err-first.ensures)
+    (no_then (seen c.args.self.now) c.args.at c.args.full c.requires.1.1 _ c.in_ok-begin.ensures c.in_err-first.ensures)
 
 pub branch-statement-requires-2 : goal.branch-statement-requires-2
 branch-statement-requires-2 t c =
-    let u = else_there (seen c.args.self.now) c.args.at c.args.full c.requires.1.1 _ (c.in-ok-first.first, c.in-ok-first.other) c.requires.0 c.requires.1.0 c.in-ok-begin.ensures c.in-ok-first.ensures in
+    let u = else_there (seen c.args.self.now) c.args.at c.args.full c.requires.1.1 _ (c.in_ok-first.first, c.in_ok-first.other) c.requires.0 c.requires.1.0 c.in_ok-begin.ensures c.in_ok-first.ensures in
     (omega (arith, in_rows (seen c.args.self.now) c.args.at c.requires.1.0, u.later, u.within), (c.requires.0, u.there))
 
-pub branch-returns-in-err-second : goal.branch-returns-in-err-second
-branch-returns-in-err-second t c =
-    subst (λ o. SaysS (seen c.args.self.now) c.args.at c.args.full o) (sym c.from-residual-in-err-second.ensures)
-    (no_else (seen c.args.self.now) c.args.at c.args.full c.requires.1.1 _ c.in-ok-begin.ensures (c.in-ok-first.first, c.in-ok-first.other) c.in-ok-first.ensures c.in-err-second.ensures)
+pub branch-returns-in_err-second : goal.branch-returns-in_err-second
+branch-returns-in_err-second t c =
+    subst (λ o. SaysS (seen c.args.self.now) c.args.at c.args.full o) (sym c.from_residual-in_err-second.ensures)
+    (no_else (seen c.args.self.now) c.args.at c.args.full c.requires.1.1 _ c.in_ok-begin.ensures (c.in_ok-first.first, c.in_ok-first.other) c.in_ok-first.ensures c.in_err-second.ensures)
 
 pub branch-returns-then-alike : goal.branch-returns-then-alike
 branch-returns-then-alike t c =
-    joins (seen c.args.self.now) c.args.at c.args.full c.requires.1.1 _ c.in-ok-begin.ensures (c.in-ok-first.first, c.in-ok-first.other) c.in-ok-first.ensures
-    (c.in-ok-second.second, c.in-ok-second.end) c.in-ok-second.ensures c.if-alike.ensures
+    joins (seen c.args.self.now) c.args.at c.args.full c.requires.1.1 _ c.in_ok-begin.ensures (c.in_ok-first.first, c.in_ok-first.other) c.in_ok-first.ensures
+    (c.in_ok-second.second, c.in_ok-second.end) c.in_ok-second.ensures c.if-alike.ensures
 
 pub branch-returns-else-alike : goal.branch-returns-else-alike
 branch-returns-else-alike t c =
-    differs (seen c.args.self.now) c.args.at c.args.full c.requires.1.1 _ c.in-ok-begin.ensures (c.in-ok-first.first, c.in-ok-first.other) c.in-ok-first.ensures
-    (c.in-ok-second.second, c.in-ok-second.end) c.in-ok-second.ensures c.if-alike.ensures
+    differs (seen c.args.self.now) c.args.at c.args.full c.requires.1.1 _ c.in_ok-begin.ensures (c.in_ok-first.first, c.in_ok-first.other) c.in_ok-first.ensures
+    (c.in_ok-second.second, c.in_ok-second.end) c.in_ok-second.ensures c.if-alike.ensures
 
 -- while
 pub repeat-numbers-requires : goal.repeat-numbers-requires
 repeat-numbers-requires t c = (c.requires.0, turn_there (seen c.args.self.now) c.args.at c.args.full c.requires.1.1 c.requires.1.0)
 
-pub repeat-returns-in-err-begin : goal.repeat-returns-in-err-begin
-repeat-returns-in-err-begin t c =
-    subst (λ o. SaysS (seen c.args.self.now) c.args.at c.args.full o) (sym c.from-residual.ensures)
-    (no_turn (seen c.args.self.now) c.args.at c.args.full c.requires.1.1 c.in-err-begin.ensures)
+pub repeat-returns-in_err-begin : goal.repeat-returns-in_err-begin
+repeat-returns-in_err-begin t c =
+    subst (λ o. SaysS (seen c.args.self.now) c.args.at c.args.full o) (sym c.from_residual.ensures)
+    (no_turn (seen c.args.self.now) c.args.at c.args.full c.requires.1.1 c.in_err-begin.ensures)
 
 pub repeat-statement-requires : goal.repeat-statement-requires
 repeat-statement-requires t c =
-    let u = body_there (seen c.args.self.now) c.args.at c.args.full c.requires.1.1 _ c.requires.1.0 c.in-ok-begin.ensures in
+    let u = body_there (seen c.args.self.now) c.args.at c.args.full c.requires.1.1 _ c.requires.1.0 c.in_ok-begin.ensures in
     (omega (arith, in_rows (seen c.args.self.now) c.args.at c.requires.1.0, u.later, u.within), (c.requires.0, u.there))
 
-pub repeat-returns-in-err-after : goal.repeat-returns-in-err-after
-repeat-returns-in-err-after t c =
-    subst (λ o. SaysS (seen c.args.self.now) c.args.at c.args.full o) (sym c.from-residual-in-err-after.ensures)
-    (no_body (seen c.args.self.now) c.args.at c.args.full c.requires.1.1 _ c.in-ok-begin.ensures c.in-err-after.ensures)
+pub repeat-returns-in_err-after : goal.repeat-returns-in_err-after
+repeat-returns-in_err-after t c =
+    subst (λ o. SaysS (seen c.args.self.now) c.args.at c.args.full o) (sym c.from_residual-in_err-after.ensures)
+    (no_body (seen c.args.self.now) c.args.at c.args.full c.requires.1.1 _ c.in_ok-begin.ensures c.in_err-after.ensures)
 
 pub repeat-returns-then-alike : goal.repeat-returns-then-alike
-repeat-returns-then-alike t c = repeats (seen c.args.self.now) c.args.at c.args.full c.requires.1.1 _ c.in-ok-begin.ensures (c.in-ok-after.after, c.in-ok-after.end) c.in-ok-after.ensures c.if-alike.ensures
+repeat-returns-then-alike t c = repeats (seen c.args.self.now) c.args.at c.args.full c.requires.1.1 _ c.in_ok-begin.ensures (c.in_ok-after.after, c.in_ok-after.end) c.in_ok-after.ensures c.if-alike.ensures
 
 pub repeat-returns-else-alike : goal.repeat-returns-else-alike
-repeat-returns-else-alike t c = changes (seen c.args.self.now) c.args.at c.args.full c.requires.1.1 _ c.in-ok-begin.ensures (c.in-ok-after.after, c.in-ok-after.end) c.in-ok-after.ensures c.if-alike.ensures
+repeat-returns-else-alike t c = changes (seen c.args.self.now) c.args.at c.args.full c.requires.1.1 _ c.in_ok-begin.ensures (c.in_ok-after.after, c.in_ok-after.end) c.in_ok-after.ensures c.if-alike.ensures
 
 -- one after the other
 pub sequence-statement-requires : goal.sequence-statement-requires
 sequence-statement-requires t c = (omega (arith, in_rows (seen c.args.self.now) c.args.at c.requires.1.0), (c.requires.0, first_there (seen c.args.self.now) c.args.at c.args.full c.requires.1.1 c.requires.1.0))
 
-pub sequence-returns-in-err-after : goal.sequence-returns-in-err-after
-sequence-returns-in-err-after t c =
-    subst (λ o. SaysS (seen c.args.self.now) c.args.at c.args.full o) (sym c.from-residual.ensures)
-    (no_first (seen c.args.self.now) c.args.at c.args.full c.requires.1.1 c.in-err-after.ensures)
+pub sequence-returns-in_err-after : goal.sequence-returns-in_err-after
+sequence-returns-in_err-after t c =
+    subst (λ o. SaysS (seen c.args.self.now) c.args.at c.args.full o) (sym c.from_residual.ensures)
+    (no_first (seen c.args.self.now) c.args.at c.args.full c.requires.1.1 c.in_err-after.ensures)
 
 pub sequence-statement-requires-2 : goal.sequence-statement-requires-2
 sequence-statement-requires-2 t c =
-    let u = second_there (seen c.args.self.now) c.args.at c.args.full c.requires.1.1 (c.in-ok-after.after, c.in-ok-after.next) c.requires.0 c.requires.1.0 c.in-ok-after.ensures in
+    let u = second_there (seen c.args.self.now) c.args.at c.args.full c.requires.1.1 (c.in_ok-after.after, c.in_ok-after.next) c.requires.0 c.requires.1.0 c.in_ok-after.ensures in
     (omega (arith, in_rows (seen c.args.self.now) c.args.at c.requires.1.0, u.later, u.within), (c.requires.0, u.there))
 
 pub sequence-returns : goal.sequence-returns
-sequence-returns t c = sequence (seen c.args.self.now) c.args.at c.args.full c.requires.1.1 (c.in-ok-after.after, c.in-ok-after.next) _ c.in-ok-after.ensures c.statement-2.ensures
+sequence-returns t c = sequence (seen c.args.self.now) c.args.at c.args.full c.requires.1.1 (c.in_ok-after.after, c.in_ok-after.next) _ c.in_ok-after.ensures c.statement-2.ensures
 
 -- any statement
 pub statement-returns-in-Skip : goal.statement-returns-in-Skip
@@ -104,10 +104,10 @@ statement-returns-else-drops t c = no_drop (seen c.args.self.now) c.args.at c.ar
 pub statement-numbers-requires : goal.statement-numbers-requires
 statement-numbers-requires t c = (c.requires.0, show_there (seen c.args.self.now) c.args.at c.args.full c.in-Show.ensures c.requires.1)
 
-pub statement-returns-in-err-end : goal.statement-returns-in-err-end
-statement-returns-in-err-end t c =
-    subst (λ o. SaysS (seen c.args.self.now) c.args.at c.args.full o) (sym c.from-residual.ensures)
-    (no_show (seen c.args.self.now) c.args.at c.args.full c.in-Show.ensures c.in-err-end.ensures)
+pub statement-returns-in_err-end-in-Show : goal.statement-returns-in_err-end-in-Show
+statement-returns-in_err-end-in-Show t c =
+    subst (λ o. SaysS (seen c.args.self.now) c.args.at c.args.full o) (sym c.from_residual.ensures)
+    (no_show (seen c.args.self.now) c.args.at c.args.full c.in-Show.ensures c.in_err-end-in-Show.ensures)
 
-pub statement-returns-in-ok-end : goal.statement-returns-in-ok-end
-statement-returns-in-ok-end t c = shows (seen c.args.self.now) c.args.at c.args.full c.in-Show.ensures _ c.in-ok-end.ensures
+pub statement-returns-in_ok-end-in-Show : goal.statement-returns-in_ok-end-in-Show
+statement-returns-in_ok-end-in-Show t c = shows (seen c.args.self.now) c.args.at c.args.full c.in-Show.ensures _ c.in_ok-end-in-Show.ensures

@@ -7,24 +7,24 @@ pub numbers-requires : goal.numbers-requires
 numbers-requires t c =
     (omega (arith, in_rows_e (seen c.args.self.now) c.args.at c.requires.1), (c.requires.0, there_left (seen c.args.self.now) c.args.at _ c.in-Binary.ensures c.requires.1))
 
-pub returns-in-err-right : goal.returns-in-err-right
-returns-in-err-right t c =
-    subst (λ o. SaysE (seen c.args.self.now) c.args.at o) (sym c.from-residual.ensures) (says_no_left (seen c.args.self.now) c.args.at _ c.in-Binary.ensures c.in-err-right.ensures)
+pub returns-in_err-right-in-Binary : goal.returns-in_err-right-in-Binary
+returns-in_err-right-in-Binary t c =
+    subst (λ o. SaysE (seen c.args.self.now) c.args.at o) (sym c.from_residual.ensures) (says_no_left (seen c.args.self.now) c.args.at _ c.in-Binary.ensures c.in_err-right-in-Binary.ensures)
 
 pub numbers-requires-in-Binary : goal.numbers-requires-in-Binary
 numbers-requires-in-Binary t c =
-    let r = there_right (seen c.args.self.now) c.args.at _ c.in-Binary.ensures c.in-ok-right.right c.requires.1 c.in-ok-right.ensures in
+    let r = there_right (seen c.args.self.now) c.args.at _ c.in-Binary.ensures c.in_ok-right-in-Binary.right c.requires.1 c.in_ok-right-in-Binary.ensures in
     (omega (arith, r.1, r.2), (c.requires.0, r.0))
 
 pub returns-in-Number : goal.returns-in-Number
 returns-in-Number t c = says_number (seen c.args.self.now) c.args.at _ c.in-Number.ensures
 
-pub returns-in-ok-right : goal.returns-in-ok-right
-returns-in-ok-right t c =
-    says_both (seen c.args.self.now) c.args.at _ c.in-Binary.ensures c.in-ok-right.right _ c.in-ok-right.ensures c.numbers-in-Binary.ensures
+pub returns-in_ok-right-in-Binary : goal.returns-in_ok-right-in-Binary
+returns-in_ok-right-in-Binary t c =
+    says_both (seen c.args.self.now) c.args.at _ c.in-Binary.ensures c.in_ok-right-in-Binary.right _ c.in_ok-right-in-Binary.ensures c.numbers-in-Binary.ensures
 
-pub returns-then-is-operand : goal.returns-then-is-operand
-returns-then-is-operand t c = says_variable (seen c.args.self.now) c.args.at _ c.in-Variable.ensures (sym c.if-is-operand.ensures)
+pub returns-then-is_operand : goal.returns-then-is_operand
+returns-then-is_operand t c = says_variable (seen c.args.self.now) c.args.at _ c.in-Variable.ensures (sym c.if-is_operand.ensures)
 
-pub returns-else-is-operand : goal.returns-else-is-operand
-returns-else-is-operand t c = says_no_variable (seen c.args.self.now) c.args.at _ c.in-Variable.ensures (sym c.if-is-operand.ensures)
+pub returns-else-is_operand : goal.returns-else-is_operand
+returns-else-is_operand t c = says_no_variable (seen c.args.self.now) c.args.at _ c.in-Variable.ensures (sym c.if-is_operand.ensures)

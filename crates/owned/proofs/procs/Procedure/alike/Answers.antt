@@ -3,4 +3,4 @@ use Rattle.owned.proofs.Bits.{bits_alike}
 use Rattle.owned.proofs.procs.Procedure.alike.Goals as goal
 
 pub returns : goal.returns
-returns c = sym (bits_alike (length c.args.self.now.kinds.now) c.args.a.0 c.args.b.0 c.first-difference.result c.first-difference.ensures)
+returns c = sym (bits_alike (length c.args.self.now.kinds.now) c.args.a.0 c.args.b.0 c.first_difference.result c.first_difference.ensures)

@@ -9,26 +9,26 @@ returns-then-n-callee c = hands_other (seen c.args.self.now) (seen c.args.callee
 pub loop-i-init : goal.loop-i-init
 loop-i-init c = left_begin (seen c.args.self.now) c.args.at c.args.n _ c.requires.1 (λ as₁. refl)
 
-pub overflow-add-next : goal.overflow-add-next
-overflow-add-next c = omega (arith, c.loop-i.invariant.within, c.requires.0.rows)
+pub overflow_add-next : goal.overflow_add-next
+overflow_add-next c = omega (arith, c.loop-i.invariant.within, c.requires.0.rows)
 
-pub overflow-add-next-in-loop-i : goal.overflow-add-next-in-loop-i
-overflow-add-next-in-loop-i c = omega (arith, c.loop-i.invariant.within, c.requires.0.rows)
+pub overflow_add-next-in-loop-i : goal.overflow_add-next-in-loop-i
+overflow_add-next-in-loop-i c = omega (arith, c.loop-i.invariant.within, c.requires.0.rows)
 
-pub returns-then-not-hands-over : goal.returns-then-not-hands-over
-returns-then-not-hands-over c =
-    hands_no (seen c.args.self.now) (seen c.args.callee.now) c.args.at c.args.n c.args.full _ _ _ c.loop-i.invariant (omega arith) _ _ c.word.ensures c.word-lent.ensures c.if-not-hands-over.ensures
+pub returns-then-not-hands_over : goal.returns-then-not-hands_over
+returns-then-not-hands_over c =
+    hands_no (seen c.args.self.now) (seen c.args.callee.now) c.args.at c.args.n c.args.full _ _ _ c.loop-i.invariant (omega arith) _ _ c.word.ensures c.word-lent.ensures c.if-not-hands_over.ensures
 
-pub stands-alone-requires : goal.stands-alone-requires
-stands-alone-requires c = (c.requires.0, left_next (seen c.args.self.now) c.args.at c.args.n _ _ _ c.loop-i.invariant c.requires.1 (omega arith))
+pub stands_alone-requires : goal.stands_alone-requires
+stands_alone-requires c = (c.requires.0, left_next (seen c.args.self.now) c.args.at c.args.n _ _ _ c.loop-i.invariant c.requires.1 (omega arith))
 
-pub returns-then-not-stands-alone : goal.returns-then-not-stands-alone
-returns-then-not-stands-alone c =
-    hands_twice (seen c.args.self.now) (seen c.args.callee.now) c.args.at c.args.n c.args.full _ _ _ c.loop-i.invariant (omega arith) _ _ c.word.ensures c.word-lent.ensures c.if-not-hands-over.ensures c.if-not-stands-alone.ensures
+pub returns-then-not-stands_alone : goal.returns-then-not-stands_alone
+returns-then-not-stands_alone c =
+    hands_twice (seen c.args.self.now) (seen c.args.callee.now) c.args.at c.args.n c.args.full _ _ _ c.loop-i.invariant (omega arith) _ _ c.word.ensures c.word-lent.ensures c.if-not-hands_over.ensures c.if-not-stands_alone.ensures
 
 pub loop-i-preserved : goal.loop-i-preserved
 loop-i-preserved c =
-    hands_more (seen c.args.self.now) (seen c.args.callee.now) c.args.at c.args.n c.args.full _ _ _ c.loop-i.invariant (omega arith) _ _ c.word.ensures c.word-lent.ensures c.if-not-hands-over.ensures c.requires.1 c.if-not-stands-alone.ensures _ c.after-argument-left.ensures
+    hands_more (seen c.args.self.now) (seen c.args.callee.now) c.args.at c.args.n c.args.full _ _ _ c.loop-i.invariant (omega arith) _ _ c.word.ensures c.word-lent.ensures c.if-not-hands_over.ensures c.requires.1 c.if-not-stands_alone.ensures _ c.after_argument-left.ensures
 
 pub returns : goal.returns
 returns c = hands_done (seen c.args.self.now) (seen c.args.callee.now) c.args.at c.args.n c.args.full _ _ _ c.loop-i.invariant (omega arith) (omega arith)

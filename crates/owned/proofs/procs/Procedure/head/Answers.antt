@@ -3,8 +3,8 @@ use Rattle.owned.specs.Views.{seen}
 use Rattle.owned.proofs.Reading.{in_rows, no_head_there}
 use Rattle.owned.proofs.procs.Procedure.head.Goals as goal
 
-pub statement-at-requires : goal.statement-at-requires
-statement-at-requires c = (c.requires.0.rows, omega (arith, in_rows (seen c.args.self.now) c.args.at c.requires.1))
+pub statement_at-requires : goal.statement_at-requires
+statement_at-requires c = (c.requires.0.rows, omega (arith, in_rows (seen c.args.self.now) c.args.at c.requires.1))
 
 pub unreachable-requires : goal.unreachable-requires
 unreachable-requires c = no_head_there (seen c.args.self.now) c.args.at c.in-None.ensures c.requires.1

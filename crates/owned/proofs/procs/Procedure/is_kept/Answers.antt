@@ -9,7 +9,7 @@ pub returns-then-not-has : goal.returns-then-not-has
 returns-then-not-has c = kept_missing (seen c.args.self.now) c.if-self.false c.if-not-has.ensures
 
 pub returns-in-Some : goal.returns-in-Some
-returns-in-Some c = kept_some (seen c.args.self.now) c.if-self.false c.if-not-has.ensures _ c.begins.ensures _ _ c.in-Some.ensures c.is_full_lem.ensures
+returns-in-Some c = kept_some (seen c.args.self.now) c.if-self.false c.if-not-has.ensures _ c.begins.ensures _ _ c.in-Some.ensures c.is_full.ensures
 
 pub returns-in-None : goal.returns-in-None
 returns-in-None c = kept_none (seen c.args.self.now) c.if-self.false c.if-not-has.ensures _ c.begins.ensures c.in-None.ensures

@@ -9,9 +9,9 @@ returns-then-not-stores c = no_store (seen c.args.self.now) c.args.at c.args.ful
 pub numbers-requires : goal.numbers-requires
 numbers-requires c = (c.requires.0, set_there (seen c.args.self.now) c.args.at c.args.full c.args.x c.requires.1.1 c.requires.1.0)
 
-pub returns-in-err-end : goal.returns-in-err-end
-returns-in-err-end c =
-    subst (λ o. SaysS (seen c.args.self.now) c.args.at c.args.full o) (sym c.from-residual.ensures) (no_value (seen c.args.self.now) c.args.at c.args.full c.args.x c.requires.1.1 c.if-not-stores.ensures c.in-err-end.ensures)
+pub returns-in_err-end : goal.returns-in_err-end
+returns-in_err-end c =
+    subst (λ o. SaysS (seen c.args.self.now) c.args.at c.args.full o) (sym c.from_residual.ensures) (no_value (seen c.args.self.now) c.args.at c.args.full c.args.x c.requires.1.1 c.if-not-stores.ensures c.in_err-end.ensures)
 
 pub returns : goal.returns
-returns c = sets (seen c.args.self.now) c.args.at c.args.full c.args.x c.requires.1.1 c.if-not-stores.ensures _ c.in-ok-end.ensures
+returns c = sets (seen c.args.self.now) c.args.at c.args.full c.args.x c.requires.1.1 c.if-not-stores.ensures _ c.in_ok-end.ensures
