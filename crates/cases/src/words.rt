@@ -26,7 +26,7 @@ fn complaint(heap: Global, text: &str) -> Result<String, AllocError> {
 #[test]
 fn white_space_separates(rt: HostRuntime) -> Result<(), Fail> {
     let found = numbers(rt.alloc(), b" 1\t22\n\x0b333\x0c\r\n4", 9)?;
-    assert_eq!(rt; found.as_slice(), &[1, 22, 333, 4]);
+    assert_eq!(rt; found.as_slice(), [1, 22, 333, 4].as_slice());
     assert_eq!(rt; numbers(rt.alloc(), b" \n ", 9)?.len(), 0);
     Ok(())
 }
@@ -38,7 +38,7 @@ fn numbers_have_32_bits(rt: HostRuntime) -> Result<(), Fail> {
         b"0 007 4294967295 000000000000000000000000000000001",
         9,
     )?;
-    assert_eq!(rt; found.as_slice(), &[0, 7, 4294967295, 1]);
+    assert_eq!(rt; found.as_slice(), [0, 7, 4294967295, 1].as_slice());
     assert!(rt; numbers(rt.alloc(), b"4294967296", 9).is_err());
     assert!(rt; numbers(rt.alloc(), b"42949672950", 9).is_err());
     assert!(rt; numbers(rt.alloc(), b"99999999999999999999999999", 9).is_err());
@@ -63,17 +63,20 @@ fn in_pieces(rt: HostRuntime) -> Result<(), Fail> {
     found.take(b"")?;
     found.take(b"3 4")?;
     found.take(b" 5")?;
-    assert_eq!(rt; found.finish()?.as_slice(), &[123, 4, 5]);
+    assert_eq!(rt; found.finish()?.as_slice(), [123, 4, 5].as_slice());
     Ok(())
 }
 
 // One more than asked for is kept, so that there are seen to be too many; the rest still has to be numbers.
 #[test]
 fn too_many(rt: HostRuntime) -> Result<(), Fail> {
-    assert_eq!(rt; numbers(rt.alloc(), b"1 2 3", 2)?.as_slice(), &[1, 2, 3]);
+    assert_eq!(rt;
+        numbers(rt.alloc(), b"1 2 3", 2)?.as_slice(),
+        [1, 2, 3].as_slice()
+    );
     assert_eq!(rt;
         numbers(rt.alloc(), b"1 2 3 4 5", 2)?.as_slice(),
-        &[1, 2, 3]
+        [1, 2, 3].as_slice()
     );
     assert!(rt; numbers(rt.alloc(), b"1 2 3 4 five", 2).is_err());
     Ok(())

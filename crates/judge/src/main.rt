@@ -2,6 +2,7 @@
 
 use input::read_numbers;
 use owned::{Judged, MAX_WORDS, judge};
+use std::process::ExitCode;
 
 // Enough work words for the longest program.
 const WORK_WORDS: usize = 8192 + 4 * (MAX_WORDS + 1);
@@ -20,10 +21,11 @@ fn judge_input(rt: &HostRuntime) -> anyhow::Result<()> {
     Ok(())
 }
 
-fn main(rt: HostRuntime) -> anyhow::Result<()> {
-    let done = judge_input(&rt);
-    if let Err(error) = &done {
-        eprintln!(rt; "judge: {error}")?;
-    }
-    done
+// An error is said once, with the program's name: one that `main` returned would be printed again.
+fn main(rt: HostRuntime) -> ExitCode {
+    let Err(error) = judge_input(&rt) else {
+        return ExitCode::SUCCESS;
+    };
+    let _ = eprintln!(rt; "judge: {error}");
+    ExitCode::FAILURE
 }

@@ -6,6 +6,7 @@ use interpreter::{Ran, go};
 use options::{Options, Parser, Request};
 use owned::MAX_WORDS;
 use std::env;
+use std::process::ExitCode;
 
 const USAGE: &str = "usage: run [--cells N] [--depth N] [--turns N] < ROWS
 
@@ -93,10 +94,11 @@ fn answer(rt: &HostRuntime) -> anyhow::Result<()> {
     Ok(())
 }
 
-fn main(rt: HostRuntime) -> anyhow::Result<()> {
-    let done = answer(&rt);
-    if let Err(error) = &done {
-        eprintln!(rt; "run: {error}")?;
-    }
-    done
+// An error is said once, with the program's name: one that `main` returned would be printed again.
+fn main(rt: HostRuntime) -> ExitCode {
+    let Err(error) = answer(&rt) else {
+        return ExitCode::SUCCESS;
+    };
+    let _ = eprintln!(rt; "run: {error}");
+    ExitCode::FAILURE
 }

@@ -32,7 +32,7 @@ fn ends(
     words: usize,
 ) -> Result<&'static str, AllocError> {
     let mut work = vec![in heap; 0; words]?;
-    Ok(name(go(program, 3, 2, 10, shown, work.as_mut_slice())))
+    Ok(go(program, 3, 2, 10, shown, work.as_mut_slice()).name())
 }
 
 #[test]
@@ -75,6 +75,6 @@ fn hundred_thousand_open_calls(rt: HostRuntime) -> Result<(), Fail> {
     };
     assert_eq!(rt; result, 99_999);
     assert_eq!(rt; left, 0);
-    assert_eq!(rt; name(counted(rt.alloc(), 99_999)?), "deep");
+    assert_eq!(rt; counted(rt.alloc(), 99_999)?.name(), "deep");
     Ok(())
 }
