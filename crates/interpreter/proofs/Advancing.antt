@@ -3,17 +3,17 @@
 use Rattle.std.proofs.Common.{◌≡◌, ℕ, ◌+◌, ◌*◌, ◌<◌, ◌≤◌, List, [], ◌∷◌, length, get_or, Some, Ok, Err, sym, refl, ap, ◌∙◌, subst, arith}
 use Rattle.std.specs.List.{slice_get}
 use Rattle.owned.specs.Program.{S, Sig, Prog}
-use Rattle.owned.specs.Runs.{first_free, Val, n, at, nothing, St, R, fine, fault, with_vars, last}
-use Rattle.owned.specs.Machine.{Frame, Mach, going, stopped, and_m}
+use Rattle.owned.specs.Runs.{first_free, Val, n, at, nothing, St, R, with_vars, last}
+use Rattle.owned.specs.Machine.{Frame, going, stopped, and_m}
 use Rattle.linker.specs.Code.{Code}
-use Rattle.owned.specs.Strict.{or_fault, closes, returned, strict_s, strict}
+use Rattle.owned.specs.Strict.{or_fault, closes, returned, strict}
 use Rattle.interpreter.specs.declared.machine.Halt.{Halt}
 use Rattle.interpreter.specs.declared.machine.Progress.TheVariants as progress
 use Rattle.interpreter.specs.Memory.{Control, Memory}
 use Rattle.interpreter.specs.Represents.{Means, Shown, Frames}
 use Rattle.interpreter.specs.Operations.{NoFault}
 use Rattle.interpreter.specs.Steps.{Ready, CanStep, Stepped, Kept, any_s}
-use Rattle.interpreter.specs.Calls.{Closes, CanClose, ClosedTo, Closed, Leaves, CanLeave, Left}
+use Rattle.interpreter.specs.Calls.{Closes, CanClose, ClosedTo, Closed, CanLeave, Left}
 use Rattle.interpreter.specs.Running.{Steps, CanAdvance, Done, Advanced}
 use Rattle.interpreter.proofs.Words.{get_value}
 use Rattle.interpreter.proofs.Results.{there_of}

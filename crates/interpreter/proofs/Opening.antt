@@ -1,10 +1,10 @@
 -- A procedure's frame as it begins: the arguments, the other variables 0.
-use Rattle.std.proofs.Common.{◌≡◌, ℕ, zero, suc, ◌+◌, ◌-◌, ◌*◌, ◌<◌, ◌≤◌, Bool, true, false, cond, eqb, ◌⊎◌, List, [], ◌∷◌, ◌++◌, length, get_or, take, drop, set, sym, refl, ap, ◌∙◌, subst, inl, inr, arith, length-append, length-drop, length-set}
+use Rattle.std.proofs.Common.{◌≡◌, ℕ, zero, suc, ◌+◌, ◌-◌, ◌*◌, ◌<◌, ◌≤◌, Bool, true, false, cond, eqb, ◌⊎◌, List, [], ◌∷◌, ◌++◌, length, get_or, take, drop, set, refl, ap, ◌∙◌, subst, inl, inr, arith, length-append, length-drop, length-set}
 use lib.Seq.{take-set-le}
 use Rattle.std.proofs.lemmas.List.{get_or-set_same, get_or-set_other, get_or_append_left, get_or-append_right}
 use Rattle.std.proofs.lemmas.Bool.{cases_eq}
 use Rattle.owned.specs.Runs.{Val, n, nothing, blank}
-use Rattle.interpreter.specs.Memory.{Control, Memory, set_word, with_frames, entered}
+use Rattle.interpreter.specs.Memory.{Control, Memory, with_frames, entered}
 use Rattle.interpreter.specs.Represents.{Means, Vars}
 use Rattle.interpreter.specs.Calls.{Blanked, Opened}
 

@@ -1,8 +1,8 @@
 -- `go`: the memory that it cuts is where a run may start, and what the machine says is what the run came to.
-use Rattle.std.proofs.Common.{◌≡◌, ℕ, suc, ◌+◌, ◌*◌, ◌^◌, ◌<◌, ◌≤◌, Bool, true, false, leb, List, length, get_or, take, replicate, Ok, Err, Result, sym, refl, ap, ◌∙◌, subst, inl, inr, arith, leb→le, length-take}
+use Rattle.std.proofs.Common.{◌≡◌, ℕ, suc, ◌+◌, ◌*◌, ◌^◌, ◌<◌, ◌≤◌, Bool, true, false, leb, List, length, get_or, replicate, Ok, Err, Result, sym, refl, ap, ◌∙◌, subst, inl, inr, arith, leb→le, length-take}
 use Rattle.std.proofs.lemmas.List.{length-replicate, get_or-replicate, get_or_past}
 use Rattle.std.proofs.lemmas.Bool.{cases_lt}
-use Rattle.owned.specs.Runs.{Val, Cell, free, holds, run}
+use Rattle.owned.specs.Runs.{Val, free, holds, run}
 use Rattle.owned.specs.FreeList.{FreeList}
 use Rattle.owned.proofs.Chains.{T_and}
 use Rattle.owned.proofs.TypingRules.{rows_ok}
@@ -15,7 +15,7 @@ use Rattle.interpreter.specs.Memory.{Control, Memory}
 use Rattle.interpreter.specs.Represents.{Shown}
 use Rattle.interpreter.specs.Steps.{Kept}
 use Rattle.linker.specs.Links.{LinkedAll}
-use Rattle.interpreter.specs.Running.{Starts, CanStart, Came}
+use Rattle.interpreter.specs.Running.{Starts, Came}
 use Rattle.interpreter.specs.Going.{CanGo, Went, ended}
 use Rattle.interpreter.proofs.Words.{not_holds}
 

@@ -1,6 +1,6 @@
 -- Which statements are pending where execution stands: a statement is entered at the first that takes a step, and the
 -- others of a pair follow it.
-use Rattle.std.proofs.Common.{◌≡◌, ℕ, ◌+◌, ◌<◌, true, List, [], ◌∷◌, ◌++◌, length, drop, refl, ap, ◌∙◌, append_assoc}
+use Rattle.std.proofs.Common.{◌≡◌, ℕ, ◌+◌, ◌<◌, true, List, [], ◌∷◌, ◌++◌, length, drop, refl, ◌∙◌, append_assoc}
 use Rattle.std.proofs.lemmas.Bool.{both_ways}
 use Rattle.owned.specs.Program.{E, S}
 use Rattle.owned.specs.Rows.{row_e, row_s}

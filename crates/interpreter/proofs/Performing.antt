@@ -1,10 +1,10 @@
 -- Statements, by their parts: each operation's result is what the next one asks for.
-use Rattle.std.proofs.Common.{◌≡◌, ℕ, suc, ◌+◌, ◌-◌, ◌<◌, ◌≤◌, Bool, true, false, cond, ltb, List, [], ◌∷◌, ◌++◌, length, get_or, take, set, Some, None, sym, refl, ap, ◌∙◌, subst, add-one, arith, length-append, length-set, take-suc-set}
+use Rattle.std.proofs.Common.{◌≡◌, ℕ, ◌+◌, ◌<◌, ◌≤◌, Bool, true, false, cond, ltb, List, [], ◌∷◌, ◌++◌, length, get_or, set, Some, None, sym, refl, ap, ◌∙◌, subst, add-one, arith, length-append, length-set, take-suc-set}
 use Rattle.std.specs.List.{slice_get}
 use Rattle.std.proofs.lemmas.List.{take_all}
 use Rattle.std.proofs.lemmas.Bool.{ltb-true, ltb-false}
 use Rattle.owned.specs.Program.{E, S, Sig, kind}
-use Rattle.owned.specs.Runs.{Val, n, at, nothing, Cell, free, holds, St, R, fine, full, as_num, value, num, get, cell_at, set_v, set_c, with_cells, box_at, first, first_free, new, Took, took}
+use Rattle.owned.specs.Runs.{Val, n, at, nothing, Cell, free, holds, St, R, fine, full, as_num, value, num, get, cell_at, set_v, set_c, with_cells, box_at, first, first_free, new}
 use Rattle.owned.specs.FreeList.{InUse}
 use Rattle.owned.proofs.Places.{nth_lt}
 use Rattle.interpreter.specs.Memory.{Control, Memory, set_word, set_content, shows, showing, too_many}

@@ -1,15 +1,15 @@
 -- Giving cells back and taking them, in words: the free list says where, and a box's word says which cell.
-use Rattle.std.proofs.Common.{◌≡◌, ℕ, zero, suc, ◌+◌, ◌-◌, ◌^◌, ◌<◌, ◌≤◌, Bool, true, false, cond, eqb, ◌⊎◌, List, [], ◌∷◌, length, get_or, set, Some, None, Option, sym, refl, ap, ◌∙◌, subst, inl, inr, arith, length-set}
+use Rattle.std.proofs.Common.{◌≡◌, ℕ, zero, suc, ◌+◌, ◌-◌, ◌<◌, Bool, true, false, cond, eqb, ◌⊎◌, List, length, get_or, set, Some, None, Option, sym, refl, ◌∙◌, subst, inl, inr, arith, length-set}
 use Rattle.std.proofs.lemmas.List.{get_or-set_same, get_or-set_other}
 use Rattle.std.proofs.lemmas.Bool.{cases_eq}
-use Rattle.owned.specs.Runs.{Val, n, at, nothing, Cell, free, holds, first}
+use Rattle.owned.specs.Runs.{Val, n, at, nothing, Cell, free, holds}
 use Rattle.owned.specs.FreeList.{FreeList, InUse, GivenBack, FirstFree}
 use Rattle.owned.specs.declared.cells.Taken.{Taken}
 use Rattle.owned.proofs.Places.{none_some}
 use Rattle.interpreter.specs.Memory.{Memory, with_list, set_content}
 use Rattle.interpreter.specs.Represents.{Means, Heap}
 use Rattle.owned.specs.Strict.{opened_by, closed, freed}
-use Rattle.interpreter.specs.Operations.{CellFreed, CellMade, Allocated, Releases, CanRelease, Released}
+use Rattle.interpreter.specs.Operations.{CellFreed, Allocated, Releases, CanRelease, Released}
 use Rattle.interpreter.proofs.Words.{in_use_there, not_holds, content_set}
 
 -- a cell given back: the others hold what they held

@@ -1,8 +1,8 @@
 -- Back to the caller: its frame says where it goes on and where the result goes.
-use Rattle.std.proofs.Common.{◌≡◌, ℕ, suc, ◌+◌, ◌-◌, ◌*◌, ◌^◌, ◌<◌, ◌≤◌, true, eqb, List, [], ◌∷◌, length, get_or, take, Some, sym, refl, ap, ◌∙◌, subst, arith, length-take, get_or-take}
+use Rattle.std.proofs.Common.{◌≡◌, ℕ, suc, ◌+◌, ◌-◌, ◌*◌, ◌^◌, ◌<◌, ◌≤◌, true, List, [], ◌∷◌, length, get_or, take, Some, sym, refl, ap, ◌∙◌, subst, arith, length-take, get_or-take}
 use Rattle.std.specs.List.{slice_get}
 use Rattle.std.proofs.lemmas.Bool.{eq-eqb}
-use Rattle.owned.specs.Program.{S, Sig, Prog, kind}
+use Rattle.owned.specs.Program.{Sig, Prog, kind}
 use Rattle.owned.specs.Runs.{first_free, Val, St, R, fine, with_vars, stays}
 use Rattle.owned.specs.Machine.{Frame, going, and_m}
 use Rattle.interpreter.specs.Memory.{Control, Memory, left}

@@ -1,7 +1,7 @@
 -- A step: what the statement's head says is done, and the machine goes on after it.
-use Rattle.std.proofs.Common.{◌≡◌, ℕ, ◌+◌, ◌<◌, Bool, true, false, cond, ltb, List, [], ◌∷◌, length, get_or, drop, set, Some, Ok, Err, Result, sym, refl, ap, ◌∙◌, subst, arith, length-set, drop-set-lt}
+use Rattle.std.proofs.Common.{◌≡◌, ℕ, ◌+◌, ◌<◌, Bool, true, false, cond, ltb, List, [], ◌∷◌, length, get_or, Some, Ok, Err, Result, sym, refl, ap, ◌∙◌, subst, arith, length-set, drop-set-lt}
 use Rattle.owned.specs.Program.{E, Arg, S, Sig, Prog}
-use Rattle.owned.specs.Runs.{first_free, St, R, full}
+use Rattle.owned.specs.Runs.{first_free, St, full}
 use Rattle.owned.specs.Machine.{Frame, going, stopped, and_m}
 use Rattle.owned.specs.Decode.{head_by, between}
 use Rattle.owned.specs.declared.names.Var.{Var}

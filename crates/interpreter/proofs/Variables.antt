@@ -3,7 +3,7 @@ use Rattle.std.proofs.Common.{◌≡◌, ℕ, zero, suc, ◌+◌, ◌<◌, List,
 use Rattle.std.proofs.lemmas.List.{get_or-set_other}
 use Rattle.std.specs.List.{slice_get}
 use Rattle.owned.specs.Program.{Sig, kind}
-use Rattle.owned.specs.Runs.{Val, n, at, nothing, Cell, St, R, fine, fault, get, set_v, with_cells, Took, took, missing}
+use Rattle.owned.specs.Runs.{Val, n, at, nothing, Cell, St, fine, fault, set_v, with_cells, Took, took, missing}
 use Rattle.owned.proofs.Places.{nth_lt}
 use Rattle.interpreter.specs.Memory.{Control, Memory, set_word}
 use Rattle.interpreter.specs.Represents.{State}

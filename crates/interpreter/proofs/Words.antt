@@ -6,7 +6,7 @@ use Rattle.std.specs.List.{slice_get}
 use Rattle.std.proofs.lemmas.List.{get_or-set_same, get_or-set_other, get_or-drop, get_or_append_left}
 use Rattle.std.proofs.lemmas.Bool.{cases_eq}
 use Rattle.owned.specs.Program.{Sig, kind}
-use Rattle.owned.specs.Runs.{Val, n, at, nothing, Cell, free, holds, St, get, set_v}
+use Rattle.owned.specs.Runs.{Val, at, nothing, Cell, free, holds, St, get, set_v}
 use Rattle.owned.specs.FreeList.{next_free, FreeAt}
 use Rattle.owned.proofs.Places.{nth_lt, get_or_nth}
 use Rattle.interpreter.specs.Memory.{Control, Memory, set_word, set_content, with_frames}

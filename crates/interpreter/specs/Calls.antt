@@ -1,5 +1,5 @@
 -- What the parts of a call and of a return ask for and do.
-use Rattle.std.specs.Prelude.{◌≡◌, ℕ, ◌+◌, ◌-◌, ◌*◌, ◌<◌, ◌≤◌, true, List, [], ◌∷◌, ◌++◌, length, drop, ◌≢◌, slice_index}
+use Rattle.std.specs.Prelude.{◌≡◌, ℕ, ◌+◌, ◌*◌, ◌<◌, ◌≤◌, true, List, [], ◌∷◌, ◌++◌, length, drop, ◌≢◌, slice_index}
 use Rattle.std.specs.List.{slice_get}
 use Rattle.owned.specs.Program.{Arg, Sig, Prog, kind}
 use Rattle.owned.specs.Rows.{row_as}

@@ -4,7 +4,7 @@ use Rattle.std.specs.Prelude.{◌≡◌, ℕ, zero, suc, ◌+◌, ◌-◌, ◌*�
 use Rattle.interpreter.specs.declared.machine.Halt.{Halt}
 use Rattle.interpreter.specs.declared.machine.Halt.TheVariants.{Full, Spent, Deep}
 use Rattle.owned.specs.Program.{E, S, Sig, bit, kind}
-use Rattle.owned.specs.Runs.{first_free, Val, at, Cell, free, holds, St, R, fine, fault, full, ok, value, get, Took, took, first}
+use Rattle.owned.specs.Runs.{first_free, Val, at, Cell, free, holds, St, R, fine, fault, full, ok, value, get, took, first}
 use Rattle.owned.specs.Rows.{row_e}
 use Rattle.owned.specs.FreeList.{InUse}
 use Rattle.linker.specs.Code.{Code, AtE}

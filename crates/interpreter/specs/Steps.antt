@@ -7,7 +7,7 @@ use Rattle.interpreter.specs.declared.machine.Halt.{Halt}
 use Rattle.interpreter.specs.declared.machine.Halt.TheVariants.{Full, Spent, Deep}
 use Rattle.interpreter.specs.Memory.{Control, Memory}
 use Rattle.interpreter.specs.Represents.{Represents}
-use Rattle.owned.specs.Strict.{strict_s, strict}
+use Rattle.owned.specs.Strict.{strict_s}
 
 -- a machine that goes on, as memory has it
 pub record Going (g : Prog) (c : Control) (m : Memory) (w : Mach) : Type 0 where

@@ -1,5 +1,5 @@
 -- What the words after the name of the program ask for.
-use Rattle.std.specs.Prelude.{◌≡◌, ℕ, ◌+◌, ◌-◌, ◌*◌, ◌^◌, min, Bool, true, false, cond, ◌&&◌, List, [], ◌∷◌, length, is_some, Some, None, Ok, Err, codes, fold, Option, Result, ◌==◌, nat_le}
+use Rattle.std.specs.Prelude.{ℕ, ◌+◌, ◌-◌, ◌*◌, ◌^◌, min, true, cond, ◌&&◌, List, [], ◌∷◌, length, is_some, Some, None, Ok, Err, codes, fold, Option, Result, ◌==◌, nat_le}
 use Rattle.std.specs.Option.{unwrap_or}
 use Rattle.std.specs.Str.{bytes_eq}
 use Rattle.options.specs.declared.Limit.{Limit}

@@ -1,4 +1,4 @@
-use Rattle.std.proofs.Common.{◌≡◌, refl, ap, ◌∙◌, arith}
+use Rattle.std.proofs.Common.{refl, ap, ◌∙◌, arith}
 use Rattle.interpreter.specs.Memory.{Control}
 use Rattle.interpreter.proofs.Releasing.{nothing_held, content_there, can_release_inside, cell_in_use, box_released}
 use Rattle.interpreter.proofs.machine.Machine.+release.Goals as goal

@@ -1,4 +1,4 @@
-use Rattle.std.proofs.Common.{◌≡◌, refl}
+use Rattle.std.proofs.Common.{refl}
 use Rattle.interpreter.proofs.Releasing.{cell_made}
 use Rattle.interpreter.proofs.machine.Machine.allocate.Goals as goal
 

@@ -1,4 +1,4 @@
-use Rattle.std.proofs.Common.{refl, ap, arith}
+use Rattle.std.proofs.Common.{refl, ap}
 use Rattle.interpreter.specs.Memory.{Control}
 use Rattle.interpreter.proofs.Branching.{kept_same}
 use Rattle.interpreter.proofs.Calling.{call_deep, call_can, call_spent, call_suspend, call_open, call_done, call_kept}

@@ -1,4 +1,4 @@
-use Rattle.std.proofs.Common.{◌≡◌, Some, Ok, Err, sym, refl, ap, ◌∙◌, inl, inr, arith}
+use Rattle.std.proofs.Common.{Some, Ok, refl, ap, ◌∙◌, inl, inr}
 use Rattle.interpreter.specs.Memory.{Control, control, memory}
 use Rattle.interpreter.specs.Steps.{halted}
 use Rattle.interpreter.proofs.Branching.{kept_same}

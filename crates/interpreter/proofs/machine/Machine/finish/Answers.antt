@@ -1,4 +1,4 @@
-use Rattle.std.proofs.Common.{◌≡◌, ◌+◌, ◌/◌, sym, refl, subst, inl, inr, arith}
+use Rattle.std.proofs.Common.{◌+◌, ◌/◌, sym, refl, subst, inl, inr, arith}
 use Rattle.interpreter.specs.Memory.{control, memory}
 use Rattle.interpreter.proofs.Closing.{CloseSofar, close_start, close_end, close_unmarked, close_kind, close_var, close_release, close_marked}
 use Rattle.interpreter.proofs.machine.Machine.finish.Goals.{then-mask-eq1, else-mask-eq1}

@@ -1,4 +1,4 @@
-use Rattle.std.proofs.Common.{◌≡◌, sym, refl, ap}
+use Rattle.std.proofs.Common.{sym, refl, ap}
 use Rattle.interpreter.specs.Memory.{Control}
 use Rattle.interpreter.proofs.Returning.{leave_finish, leave_result, leave_resume, leave_put, leave_done, leave_kept}
 use Rattle.interpreter.proofs.machine.Machine.leave.Goals as goal

@@ -1,4 +1,4 @@
-use Rattle.std.proofs.Common.{◌≡◌, sym, ap, ◌∙◌, arith}
+use Rattle.std.proofs.Common.{sym, ap, ◌∙◌}
 use Rattle.interpreter.specs.Memory.{Control, control}
 use Rattle.interpreter.proofs.Opening.{open_room, open_done}
 use Rattle.interpreter.proofs.machine.Machine.open.Goals as goal

@@ -1,5 +1,5 @@
-use Rattle.std.proofs.Common.{refl, arith}
-use Rattle.interpreter.specs.Memory.{control, memory}
+use Rattle.std.proofs.Common.{refl}
+use Rattle.interpreter.specs.Memory.{control}
 use Rattle.interpreter.proofs.Branching.{kept_same}
 use Rattle.interpreter.proofs.Starting.{run_deep, run_spent, run_open, run_can, run_end, run_shown}
 use Rattle.interpreter.proofs.machine.Machine.run.Goals as goal

@@ -1,5 +1,4 @@
-use Rattle.std.proofs.Common.{◌≡◌, ◌+◌, ◌≤◌, length, get_or, refl, arith}
-use Rattle.owned.specs.Decode.{variable}
+use Rattle.std.proofs.Common.{◌≡◌, get_or, refl, arith}
 use Rattle.owned.specs.declared.decode.Transfer.TheVariants.{Box, Unbox, Look, Fill, Move}
 use Rattle.owned.specs.declared.decode.Statement.TheVariants.{Set, Between, Drop, Call}
 use Rattle.interpreter.proofs.Heads.{room_by, code_known}

@@ -1,4 +1,4 @@
-use Rattle.std.proofs.Common.{◌≡◌, length, refl, ap₂, length-set}
+use Rattle.std.proofs.Common.{refl, ap₂, length-set}
 use Rattle.interpreter.specs.Memory.{control, with_below}
 use Rattle.interpreter.proofs.Words.{below_kept}
 use Rattle.interpreter.proofs.machine.Machine.store.Goals as goal

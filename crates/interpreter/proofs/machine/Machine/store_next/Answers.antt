@@ -1,4 +1,4 @@
-use Rattle.std.proofs.Common.{◌≡◌, ◌+◌, refl, ap₂, arith, length-set}
+use Rattle.std.proofs.Common.{◌+◌, refl, ap₂, arith, length-set}
 use lib.Seq.{take-set-le}
 use Rattle.interpreter.specs.Memory.{control, with_below}
 use Rattle.interpreter.proofs.machine.Machine.store_next.Goals as goal
