@@ -74,7 +74,7 @@ module _ (c : Control) {f : ℕ} {q : Proc} {vs : List Val} (s₀ : St) {m₂ m�
         turns = turns;
       }
 
-  module _ {g : Prog} {e : ℕ} (procs : (f : ℕ) (q : Proc) → slice_get g f ≡ Some q → ProcAt c.code f q) (all-few : (f : ℕ) (q : Proc) → slice_get g f ≡ Some q → length q.sig.kinds ≤ 32) (all-args : (f : ℕ) (q : Proc) → slice_get g f ≡ Some q → length q.sig.args ≤ length q.sig.kinds) (depth : c.depth ≡ suc e) (size : c.base + 40 * (suc e + 1) ≤ c.size)
+  module _ {g : Prog} {e : ℕ} (procs : (f : ℕ) (q : Proc) → slice_get g f ≡ Some q → ProcAt c.code f q) (all_few : (f : ℕ) (q : Proc) → slice_get g f ≡ Some q → length q.sig.kinds ≤ 32) (all_args : (f : ℕ) (q : Proc) → slice_get g f ≡ Some q → length q.sig.args ≤ length q.sig.kinds) (depth : c.depth ≡ suc e) (size : c.base + 40 * (suc e + 1) ≤ c.size)
       (fs₁ : List Frame) (total : e + length fs₁ < 2 ^ 32) (frames : Frames c.code (take (c.base + 40) m₂.frames) (c.base + 40) fs₁) where
     pub opened_rep : Represents g (entered c f m₂.frames) m₃ e q.sig (push q.body []) (opening q.sig vs s₀) fs₁
     opened_rep = record {
@@ -82,7 +82,7 @@ module _ (c : Control) {f : ℕ} {q : Proc} {vs : List Val} (s₀ : St) {m₂ m�
       pends = rw row.body.1 (entered_pends c.code q.body row.body.0 (length c.code.rows) [] row.body.2 refl);
       singles = push_singles q.body [] tt;
       row = (q.body, row);
-      context = record { procs = procs; few = all-few; args = all-args; frames = frames; depth = omega arith; room = omega arith; below = omega (arith, length-take (c.base + 40) m₂.frames, room); total = total };
+      context = record { procs = procs; few = all_few; args = all_args; frames = frames; depth = omega arith; room = omega arith; below = omega (arith, length-take (c.base + 40) m₂.frames, room); total = total };
     }
 
 module _ (g : Prog) (c : Control) (m : Memory) (d : ℕ) (p : Sig) (x f : ℕ) (bs : List Arg) (ss : List S) (s : St) (fs : List Frame) (h : Ready g c m d p (S.call x f bs) ss s fs) where

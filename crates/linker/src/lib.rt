@@ -8,7 +8,7 @@ ghost use Rattle.owned.specs.Kept.{is_num};
 ghost use Rattle.owned.specs.Ends.{HeadAt};
 ghost use Rattle.owned.specs.Views.{seen};
 ghost use Rattle.owned.specs.VarSets.{bits};
-ghost use Rattle.linker.specs.Code.{released as releasedOf};
+ghost use Rattle.linker.specs.Code.{released as released_of};
 ghost use Rattle.linker.specs.Links.{StandsE, StandsS, code, Held, Room, Enters, MarkedE, PartsMarked, MarkedTo, StandsMarked, LinkedTo, HeaderAt, Noted, StandsP, ProcedureTo, RoomAll, LinkedAll};
 
 use owned::decode::{Expression, Statement};
@@ -67,7 +67,7 @@ fn with_released(found: &Procedure, given: VarSet, x: Var) -> VarSet
 // The variables that are given back as a procedure ends.
 fn released(found: &Procedure) -> VarSet
     requires { length (seen found.now).sig.kinds ≤ 32 }
-    ensures { bits (length (seen found.now).sig.kinds) result.0 ≡ releasedOf (seen found.now).sig 0 (seen found.now).sig.kinds }
+    ensures { bits (length (seen found.now).sig.kinds) result.0 ≡ released_of (seen found.now).sig 0 (seen found.now).sig.kinds }
 {
     let mut given = VarSet(0);
     for x in 0..found.kinds.len() as u32 {

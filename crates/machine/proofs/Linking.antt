@@ -169,14 +169,14 @@ module _ (c : Code) (i : ℕ) (q : HeadAt c.rows i (Some Then)) where
         )
 
 -- the tables with what is written at a loop and at an `if`
-abbrev pub loop-at : Code → ℕ → ℕ → ℕ → Code
-loop-at c q r x = inner_at (follow_at c q r) q x
+abbrev pub loop_at : Code → ℕ → ℕ → ℕ → Code
+loop_at c q r x = inner_at (follow_at c q r) q x
 
 abbrev pub branch_at : Code → ℕ → ℕ → ℕ → ℕ → Code
-branch_at c q r x y = other_at (loop-at c q r x) q y
+branch_at c q r x y = other_at (loop_at c q r x) q y
 
-wrote_loop : (c : Code) (q r x : ℕ) → Within c (loop-at c q r x) q (q + 1)
-wrote_loop c q r x = within_both c (follow_at c q r) (loop-at c q r x) q (q + 1) q (q + 1) q (q + 1) (wrote_follow c q r) (wrote_inner (follow_at c q r) q x) (omega arith) (omega arith) (omega arith) (omega arith)
+wrote_loop : (c : Code) (q r x : ℕ) → Within c (loop_at c q r x) q (q + 1)
+wrote_loop c q r x = within_both c (follow_at c q r) (loop_at c q r x) q (q + 1) q (q + 1) q (q + 1) (wrote_follow c q r) (wrote_inner (follow_at c q r) q x) (omega arith) (omega arith) (omega arith) (omega arith)
 
 -- an `if`
 module _ (c : Code) (i : ℕ) (q : HeadAt c.rows i (Some If)) where
@@ -218,7 +218,7 @@ module _ (c : Code) (i : ℕ) (q : HeadAt c.rows i (Some If)) where
   module _ (r x y : ℕ) where
     wrote_branch : Within c (branch_at c i r x y) i (i + 1)
     wrote_branch =
-        within_both c (loop-at c i r x) (branch_at c i r x y) i (i + 1) i (i + 1) i (i + 1) (wrote_loop c i r x) (wrote_other (loop-at c i r x) i y) (omega arith) (omega arith) (omega arith) (omega arith)
+        within_both c (loop_at c i r x) (branch_at c i r x y) i (i + 1) i (i + 1) i (i + 1) (wrote_loop c i r x) (wrote_other (loop_at c i r x) i y) (omega arith) (omega arith) (omega arith) (omega arith)
 
     pub branch_first : StandsMarked c i → Next c (branch_at c i r x y) i (get_or c.inner i 0)
     branch_first t = first_next c (branch_at c i r x y) i _ _ wrote_branch t.0 t.1 (branches t.0 t.1 t.2 t.3)
@@ -272,16 +272,16 @@ module _ (c : Code) (i : ℕ) (q : HeadAt c.rows i (Some While)) where
   body_there t = let p = body t.0 t.1 t.2 t.3 in (p.a, t.1, p.here)
 
   module _ (r x : ℕ) where
-    body_marked : (s : S) (rest : List ℕ) (p : Body s rest) → Marked (loop-at c i r x) p.a (get_or c.inner i 0)
+    body_marked : (s : S) (rest : List ℕ) (p : Body s rest) → Marked (loop_at c i r x) p.a (get_or c.inner i 0)
     body_marked s rest p =
-        marked_frame c (loop-at c i r x) p.a (get_or c.inner i 0) (agree_within c (loop-at c i r x) (i + 1) _ (get_or c.inner i 0) _ (omega (arith, p.is)) (omega arith) ((wrote_loop c i r x).above (get_or c.inner i 0 + length (row_s p.a)))) p.mark
+        marked_frame c (loop_at c i r x) p.a (get_or c.inner i 0) (agree_within c (loop_at c i r x) (i + 1) _ (get_or c.inner i 0) _ (omega (arith, p.is)) (omega arith) ((wrote_loop c i r x).above (get_or c.inner i 0 + length (row_s p.a)))) p.mark
 
-    pub loop_body : StandsMarked c i → Next c (loop-at c i r x) i (get_or c.inner i 0)
+    pub loop_body : StandsMarked c i → Next c (loop_at c i r x) i (get_or c.inner i 0)
     loop_body t =
         let p = body t.0 t.1 t.2 t.3 in
-        record { there = (p.a, t.1, p.here, body_marked t.0 t.1 p); later = omega (arith, p.is); rows = refl; room = room_stays c (loop-at c i r x) i (i + 1) (wrote_loop c i r x) }
+        record { there = (p.a, t.1, p.here, body_marked t.0 t.1 p); later = omega (arith, p.is); rows = refl; room = room_stays c (loop_at c i r x) i (i + 1) (wrote_loop c i r x) }
 
-    pub link_loop : (d : Code) → Room c → i < length c.rows → Enters c.rows (get_or c.inner i 0) x → LinkedTo (loop-at c i r x) d (get_or c.inner i 0) i → LinkedTo c d i r
+    pub link_loop : (d : Code) → Room c → i < length c.rows → Enters c.rows (get_or c.inner i 0) x → LinkedTo (loop_at c i r x) d (get_or c.inner i 0) i → LinkedTo c d i r
     link_loop d room within enx l s rest e m =
         let p = body s rest e m in
         let u = l p.a rest p.here (body_marked s rest p) in
@@ -294,5 +294,5 @@ module _ (c : Code) (i : ℕ) (q : HeadAt c.rows i (Some While)) where
             record { room = omega (arith, k.inner.long, length-set c.inner i x, room.inner); enters = k.inner.each i (omega arith) b ∙ get_or-set_same c.inner i x 0 (omega (arith, room.inner)) ∙ enx p.a rest p.here ∙ ap (λ z. entry p.a z) p.is },
             subst (λ z. At d p.a z i) p.is u.0,
           ),
-          within_both c (loop-at c i r x) d i (i + 1) (get_or c.inner i 0) (get_or c.inner i 0 + length (row_s p.a)) i (i + length (row_s s)) (wrote_loop c i r x) u.1 (omega arith) (omega arith) (omega arith) (omega (arith, p.is)),
+          within_both c (loop_at c i r x) d i (i + 1) (get_or c.inner i 0) (get_or c.inner i 0 + length (row_s p.a)) i (i + length (row_s s)) (wrote_loop c i r x) u.1 (omega arith) (omega arith) (omega arith) (omega (arith, p.is)),
         )

@@ -108,11 +108,11 @@ leave_finish h = record { sig = h.sig; state = h.state; result = _; closes = lea
 
 module _ {c : Control} {m : Memory} {c₁ : Control} {m₁ : Memory} (e : Closed c m c₁ m₁) where
   -- the result's word, by the table
-  result-word : {g : Prog} {d : ℕ} {p : Sig} {s : St} {f : Frame} {fs : List Frame} → Leaves g c m d p s f fs → get_or c.code.procs (8 * c.procedure + 2) 0 ≡ p.result
-  result-word h = h.rep.row.1.result
+  result_word : {g : Prog} {d : ℕ} {p : Sig} {s : St} {f : Frame} {fs : List Frame} → Leaves g c m d p s f fs → get_or c.code.procs (8 * c.procedure + 2) 0 ≡ p.result
+  result_word h = h.rep.row.1.result
 
   pub leave_result : CanLeave c m → (8 * c₁.procedure + 8 ≤ length c₁.code.procs) × (c₁.base + get_or c₁.code.procs (8 * c₁.procedure + 2) 0 < length m₁.frames)
-  leave_result h = rw e.here (row_room h.leaves, rw (result-word h.leaves) (word h.leaves e).0)
+  leave_result h = rw e.here (row_room h.leaves, rw (result_word h.leaves) (word h.leaves e).0)
 
   module _ (below : c₁.below ≡ take c₁.base m₁.frames) (size : c₁.size ≡ length m₁.frames) where
     below₀ : c.below ≡ take c.base m₁.frames
@@ -131,7 +131,7 @@ module _ {c : Control} {m : Memory} {c₁ : Control} {m₁ : Memory} (e : Closed
       here₂ = e₂ ∙ ap (λ (z : Control). left z m₁.frames) e.here
 
       is_word : {g : Prog} {d : ℕ} {p : Sig} {s : St} {f : Frame} {fs : List Frame} → Leaves g c m d p s f fs → w ≡ get_or m₁.frames (c.base + p.result) 0
-      is_word h = ew ∙ ap (λ (z : Control). get_or m₁.frames (z.base + get_or z.code.procs (8 * z.procedure + 2) 0) 0) e.here ∙ ap (λ i. get_or m₁.frames (c.base + i) 0) (result-word h)
+      is_word h = ew ∙ ap (λ (z : Control). get_or m₁.frames (z.base + get_or z.code.procs (8 * z.procedure + 2) 0) 0) e.here ∙ ap (λ i. get_or m₁.frames (c.base + i) 0) (result_word h)
 
       is_dest : {g : Prog} {d : ℕ} {p : Sig} {s : St} {f : Frame} {fs : List Frame} → Leaves g c m d p s f fs → x ≡ f.dest
       is_dest h = ex ∙ ap (λ (z : Control). get_or m₁.frames (z.base - 40 + 34) 0) e.here ∙ rw (base_is h e below₀ size₀) (caller h e below₀ size₀).dest

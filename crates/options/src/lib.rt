@@ -1,7 +1,7 @@
 #![tactic(auto)]
 
 ghost use Rattle.std.specs.Prelude.{◌≡◌, false, is_some, Some, None, fold};
-ghost use Rattle.options.specs.Parse.{grown, decimal as decimalOf, most as most_of, word as word_of, unnamed as unnamedOf, given as givenTo, put as putTo, valued, named, taken, ended};
+ghost use Rattle.options.specs.Parse.{grown, decimal as decimal_of, most as most_of, word as word_of, unnamed as unnamed_of, given as given_to, put as put_to, valued, named, taken, ended};
 
 use std::error::Error;
 use std::fmt;
@@ -127,7 +127,7 @@ fn digits(text: &[u8]) -> Option<u64>
 
 // The number that a word is: one digit at least, and nothing but digits.
 fn decimal(text: &[u8]) -> Option<u64>
-    ensures { result ≡ decimalOf text.now }
+    ensures { result ≡ decimal_of text.now }
 {
     if text.is_empty() {
         return None;
@@ -137,7 +137,7 @@ fn decimal(text: &[u8]) -> Option<u64>
 
 // What a word is that is no option.
 fn unnamed(text: &[u8]) -> Word
-    ensures { result ≡ unnamedOf text.now }
+    ensures { result ≡ unnamed_of text.now }
 {
     if text.len() > 0 && text[0] == b'-' {
         Word::Dashed
@@ -194,7 +194,7 @@ impl Parser {
 
     // Whether an option was given before.
     fn has(self, limit: Limit) -> bool
-        ensures { result ≡ is_some (givenTo self limit) }
+        ensures { result ≡ is_some (given_to self limit) }
     {
         match limit {
             Limit::Cells => self.cells.is_some(),

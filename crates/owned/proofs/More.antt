@@ -4,7 +4,7 @@ use Rattle.std.proofs.Common.{◌≡◌, ℕ, zero, suc, ◌+◌, ◌-◌, ◌*�
 use Rattle.std.specs.List.{slice_get}
 use Rattle.std.proofs.lemmas.List.{length-set, length-replicate, set-append_left, replicate-append-replicate}
 use Rattle.owned.specs.Program.{E, Arg, S, Sig, Proc, Prog, bit, kind}
-use Rattle.owned.specs.Runs.{Val, n, at, nothing, Cell, free, holds, St, R, fine, fault, full, spent, deep, bind, May, ok, bad, with_m, value, as_num, num, get, cell_at, with_vars, with_cells, with_left, set_v, set_c, in_box, held_in, give, first, first_free, box_at, new_at, Took, took, missing, with_t, taken_box, taken, into, hand_one, more as add-value, onto, hand, turn_at, exec, opening, stays, end_one, ends, run_s, enter, run_p, last, at_start}
+use Rattle.owned.specs.Runs.{Val, n, at, nothing, Cell, free, holds, St, R, fine, fault, full, spent, deep, bind, May, ok, bad, with_m, value, as_num, num, get, cell_at, with_vars, with_cells, with_left, set_v, set_c, in_box, held_in, give, first, first_free, box_at, new_at, Took, took, missing, with_t, taken_box, taken, into, hand_one, more as add_value, onto, hand, turn_at, exec, opening, stays, end_one, ends, run_s, enter, run_p, last, at_start}
 use Rattle.owned.specs.Says.{More}
 use Rattle.owned.proofs.Turns.{Call}
 
@@ -133,8 +133,8 @@ module _ (L c k : ℕ) where
   sim_hand_one zero j x s h = sim_taken j s x h
   sim_hand_one (suc m) j x s h = (refl, h)
 
-  sim_add_value : (v : Val) (o o' : Took (List Val)) → SimTook o o' → SimTook (add-value v o) (add-value v o')
-  sim_add_value v (took vs t) o' h = (ap (add-value v) h.0, h.1)
+  sim_add_value : (v : Val) (o o' : Took (List Val)) → SimTook o o' → SimTook (add_value v o) (add_value v o')
+  sim_add_value v (took vs t) o' h = (ap (add_value v) h.0, h.1)
   sim_add_value v missing o' h = tt
 
   sim_onto : (o o' : Took Val) (g g' : Val → St → Took (List Val)) → SimTook o o' → ((v : Val) (t : St) → Has t → SimTook (g v t) (g' v (up t))) → SimTook (onto o g) (onto o' g')

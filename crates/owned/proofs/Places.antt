@@ -1,4 +1,4 @@
--- Places of a list: what `nth` says after `set`, and beside `get_or`.
+-- Places of a list: what `slice_get` says after `set`, and beside `get_or`.
 -- By recursion on the list; what is past the end is ruled out by what is said to be there.
 use Rattle.std.proofs.Common.{◌≡◌, ℕ, zero, suc, ◌<◌, List, [], ◌∷◌, ◌++◌, length, get_or, set, Some, None, Option, refl, ap, arith}
 use Rattle.std.specs.List.{slice_get}

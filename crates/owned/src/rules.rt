@@ -1,7 +1,7 @@
 ghost use Rattle.std.specs.Prelude.{◌≡◌, ℕ, ◌+◌, ◌-◌, ◌<◌, ◌≤◌, true, false, ◌&&◌, ◌||◌, ltb, ◌⊎◌, length, set, if◌then◌else◌, Some, ◌==◌, nat_eq, nat_le, nat_lt, slice_index, slice_set};
 ghost use Rattle.owned.specs.declared.decode.Statement.TheVariants.{Then, Set, If, While, Call};
 ghost use Rattle.owned.specs.Program.{Prog, kind};
-ghost use Rattle.owned.specs.Kept.{is_num, is_full, there, takes, gives, full_after_give, alike, handed, starts as startsWell, kept_all, kept, begins};
+ghost use Rattle.owned.specs.Kept.{is_num, is_full, there, takes, gives, full_after_give, alike, handed, starts as starts_by_rule, kept_all, kept, begins};
 ghost use Rattle.owned.specs.Ends.{NodeAt, HeadAt, Placed};
 ghost use Rattle.owned.specs.Views.{seen, full_of, Fit, After, SaysE, ThereE, SaysS, ThereS, allows, leaves, ThereArgs, SaysAgain, SaysLent, SaysAlone, SaysHere, SaysHands, SaysKept, Fine};
 
@@ -463,7 +463,7 @@ impl<'a> Procedure<'a> {
 // Whether the first procedure has no arguments and a number for a result.
 fn starts_well<'a>(rows: &'a [u32], starts: &'a [u32]) -> bool
     requires { (length rows.now ≤ 16384) × (Fine rows.now starts.now) }
-    ensures { (g : Prog) → Placed rows.now starts.now g → result ≡ startsWell g }
+    ensures { (g : Prog) → Placed rows.now starts.now g → result ≡ starts_by_rule g }
 {
     if starts.len() == 0 {
         return false;
