@@ -1,6 +1,6 @@
 -- Words of bits as lists: setting, clearing and reading a bit, and words that differ in none.
 -- The lists are read from the lowest bit on, so each lemma goes by halving the word.
-use Rattle.std.proofs.Common.{◌≡◌, ℕ, zero, suc, ◌+◌, ◌*◌, ◌/◌, ◌%◌, ◌^◌, ◌<◌, ◌≤◌, max, Bool, true, false, cond, ◌&&◌, eqb, ltb, List, [], ◌∷◌, length, get_or, set, sym, refl, ap, ◌∙◌, inl, inr, one-mul, arith}
+use Rattle.std.proofs.Common.{◌≡◌, ℕ, zero, suc, ◌+◌, ◌*◌, ◌/◌, ◌%◌, ◌^◌, ◌<◌, ◌≤◌, max, Bool, true, false, cond, ◌&&◌, eqb, ltb, List, [], ◌∷◌, length, get_or, set, sym, refl, ap, ◌∙◌, inl, inr, one-mul, subst, below_more, arith}
 use Prim.Native.Nat.{differ}
 use lib.Bits.{bit_or, bit_xor, or_step, xor_step, or_zero_r, xor_zero_r, shifted_half, shifted_even}
 use Rattle.std.proofs.lemmas.Nat.{shr-shr}
@@ -140,44 +140,42 @@ module _ (n k x : ℕ) where
   pub clear_empty : false ≡ get_or (bits n k) x false → bits n k ≡ set (bits n k) x false
   clear_empty h = sym (ap (λ b. set (bits n k) x b) h ∙ set-get_or (bits n k) x false)
 
--- A set that is made one variable after the other: of those below i it has the ones that are chosen, and no other.
-pub record Chosen (n : ℕ) (f : ℕ → Bool) (i k : ℕ) : Type 0 where
-  pub each : (j : ℕ) → j < n → get_or (bits n k) j false ≡ (ltb j i && f j)
+-- one bit set, and the others
+pub bit_set : (m i : ℕ) → bit_of (bit_or m (2 ^ i)) i ≡ true
+bit_set m i =
+    sym (bits_get (i + 1) i (bit_or m (2 ^ i)) (omega arith))
+    ∙ ap (λ bs. get_or bs i false) (bits_set (i + 1) i m)
+    ∙ get_or-set_same (bits (i + 1) m) i true false (omega (arith, length_bits (i + 1) m))
 
-pub chosen_none : (n : ℕ) (f : ℕ → Bool) → Chosen n f 0 0
-chosen_none n f = record { each = λ j l. bits_zero n j ∙ sym (ap (λ b. b && f j) (le-ltb j 0 (omega arith))) }
+pub bit_kept : (m i j : ℕ) → (j ≡ i → ⊥) → bit_of (bit_or m (2 ^ i)) j ≡ bit_of m j
+bit_kept m i j ne =
+    sym (bits_get (j + 1) j (bit_or m (2 ^ i)) (omega arith))
+    ∙ ap (λ bs. get_or bs j false) (bits_set (j + 1) i m)
+    ∙ get_or-set_other (bits (j + 1) m) i j true false ne
+    ∙ bits_get (j + 1) j m (omega arith)
 
-pub chosen_more : (n : ℕ) (f : ℕ → Bool) (i k r : ℕ) → i < n → Chosen n f i k → bits n r ≡ cond (f i) (set (bits n k) i true) (bits n k) → Chosen n f (i + 1) r
-chosen_more n f i k r l c e = record { each = λ j h. ap (λ bs. get_or bs j false) e ∙ by j h (f i) refl }
+-- A set that is made one variable after the other: those below x are as P has them, and the others are not in it yet.
+abbrev pub Made : (ℕ → Bool → Type 0) → ℕ → ℕ → Type 0
+Made P x m = ((y : ℕ) → y < x → P y (bit_of m y)) × ((y : ℕ) → x ≤ y → bit_of m y ≡ false)
+
+pub made_none : (P : ℕ → Bool → Type 0) → Made P 0 0
+made_none P = (λ y l. absurd (omega arith), λ y l. sym (bits_get (y + 1) y 0 (omega arith)) ∙ bits_zero (y + 1) y)
+
+pub with_bit : (P : ℕ → Bool → Type 0) (x m r : ℕ) → r ≡ bit_or m (2 ^ x) → P x true → Made P x m → Made P (x + 1) r
+with_bit P x m r e p h = (
+  below_more _ _ (λ y l. subst (λ b. P y b) (sym (kept y (λ z. omega (arith, z)))) (h.0 y l)) (subst (λ b. P x b) (sym (ap (λ k. bit_of k x) e ∙ bit_set m x)) p),
+  λ y l. kept y (λ z. omega (arith, z)) ∙ h.1 y (omega arith),
+)
   where
-    within : i < length (bits n k)
-    within = omega (arith, length_bits n k)
+    kept : (y : ℕ) → (y ≡ x → ⊥) → bit_of r y ≡ bit_of m y
+    kept y ne = ap (λ k. bit_of k y) e ∙ bit_kept m x y ne
 
-    -- the others are as they were
-    other : (j : ℕ) → (j ≡ i → ⊥) → (ltb j i && f j) ≡ (ltb j (i + 1) && f j)
-    other j ne =
-        elim (cases_lt j i) [
-          | inl h ↦ ap (λ b. b && f j) (lt-ltb j i h ∙ sym (lt-ltb j (i + 1) (omega arith)))
-          | inr h ↦ ap (λ b. b && f j) (le-ltb j i h ∙ sym (le-ltb j (i + 1) (above j h ne)))
-        ]
-      where
-        above : (j : ℕ) → i ≤ j → (j ≡ i → ⊥) → i + 1 ≤ j
-        above j h ne = elim (cases_lt i j) [ inl q ↦ omega (arith, q) | inr q ↦ absurd (ne (omega (arith, h, q))) ]
+pub without_bit : (P : ℕ → Bool → Type 0) (x m r : ℕ) → r ≡ m → P x false → Made P x m → Made P (x + 1) r
+without_bit P x m r e p h = (
+  below_more _ _ (λ y l. subst (λ k. P y (bit_of k y)) (sym e) (h.0 y l)) (subst (λ b. P x b) (sym (ap (λ k. bit_of k x) e ∙ h.1 x (omega arith))) p),
+  λ y l. ap (λ k. bit_of k y) e ∙ h.1 y (omega arith),
+)
 
-    by : (j : ℕ) → j < n → (b : Bool) → f i ≡ b → get_or (cond b (set (bits n k) i true) (bits n k)) j false ≡ (ltb j (i + 1) && f j)
-    by j h true t =
-        elim (cases_eq j i) [
-          | inl q ↦ ap (λ z. get_or (set (bits n k) i true) z false) q ∙ get_or-set_same (bits n k) i true false within ∙ sym (ap (λ z. ltb z (i + 1) && f z) q ∙ ap (λ b. b && f i) (lt-ltb i (i + 1) (omega arith)) ∙ t)
-          | inr ne ↦ get_or-set_other (bits n k) i j true false ne ∙ c.each j h ∙ other j ne
-        ]
-    by j h false t =
-        elim (cases_eq j i) [
-          | inl q ↦ c.each j h ∙ ap (λ z. ltb z i && f z) q ∙ ap (λ b. b && f i) (le-ltb i i (omega arith)) ∙ sym (ap (λ z. ltb z (i + 1) && f z) q ∙ ap (λ b. b && f i) (lt-ltb i (i + 1) (omega arith)) ∙ t)
-          | inr ne ↦ c.each j h ∙ other j ne
-        ]
-
-pub chosen_all : (n : ℕ) (f : ℕ → Bool) (i k : ℕ) → i ≡ n → Chosen n f i k → (cs : List Bool) → length cs ≡ n → ((j : ℕ) → j < n → get_or cs j false ≡ f j) → bits n k ≡ cs
-chosen_all n f i k e c cs m h =
-    ext_get_or false (bits n k) cs (length_bits n k ∙ sym m) (λ j l.
-    let o : j < n = omega (arith, length_bits n k) in
-    c.each j o ∙ ap (λ b. b && f j) (lt-ltb j i (omega arith)) ∙ sym (h j o))
+-- a word whose bits are those of a list
+pub bits_are : (n k : ℕ) (cs : List Bool) → length cs ≡ n → ((j : ℕ) → j < n → bit_of k j ≡ get_or cs j false) → bits n k ≡ cs
+bits_are n k cs m h = ext_get_or false (bits n k) cs (length_bits n k ∙ sym m) (λ j l. let o : j < n = omega (arith, length_bits n k) in bits_get n j k o ∙ h j o)

@@ -1,8 +1,9 @@
 -- A call by its head: the destination, the procedure that is found, its arguments, and that the destination stays here.
 -- Each lemma is a way out of the code; those before it are its hypotheses.
-use Rattle.std.proofs.Common.{◌≡◌, ℕ, ◌+◌, ◌*◌, ◌≤◌, Bool, true, false, not, ◌||◌, eqb, List, length, drop, set, Some, None, Option, sym, ap, ◌∙◌, arith}
+use Rattle.std.proofs.Common.{◌≡◌, ℕ, ◌+◌, ◌*◌, ◌≤◌, Bool, true, false, not, ◌&&◌, ◌||◌, eqb, List, length, get_or, drop, set, Some, None, Option, sym, ap, ◌∙◌, arith}
 use Rattle.std.specs.List.{slice_get}
-use Rattle.std.proofs.lemmas.Bool.{eq-eqb, ne_eqb}
+use Rattle.std.specs.List.{list_any}
+use Rattle.std.proofs.lemmas.Bool.{not-true, not-false}
 use Rattle.owned.specs.declared.names.Var.{Var}
 use Rattle.owned.specs.declared.varset.VarSet.{VarSet}
 use Rattle.owned.specs.declared.decode.Statement.TheVariants.{Call}
@@ -10,18 +11,21 @@ use Rattle.owned.specs.Program.{Arg, S, Sig, Proc, Prog, kind}
 use Rattle.owned.specs.Kept.{Full, is_num, takes, both, when, lent_away, hands, called, keeps}
 use Rattle.owned.specs.Decode.{list_t}
 use Rattle.owned.specs.Ends.{HeadAt, Placed}
-use Rattle.owned.specs.Views.{Seen, full_of, KeptTo, SaysS, ThereS, Found, ArgsAt, ThereArgs, SaysHere, SaysHands}
+use Rattle.owned.specs.Views.{Seen, full_of, KeptTo, SaysS, ThereS, Found, ArgsAt, ThereArgs, args_of, ArgumentsAt, After}
 use Rattle.owned.proofs.Chains.{length_list_t}
 use Rattle.owned.proofs.Statements.{row_args}
 use Rattle.owned.proofs.Reading.{by_head, parts_there}
 use Rattle.owned.proofs.Layouts.{placed_past}
-use Rattle.owned.proofs.Arguments.{args_past}
+use Rattle.owned.proofs.Arguments.{args_past, any_lends, length_args}
 
 module _ (m : Seen) (i : ℕ) (x : Var) (f n : ℕ) (k : VarSet) (is : HeadAt m.rows i (Some (Call x f n))) where
   pub args_there : ThereS m i → ThereArgs m (i + 4) n
   args_there t =
       let u = parts_there m i (Call x f n) is t in
       record { as₁ = list_t n u.0.as₁; rest = u.1; here = (length_list_t Arg n u.0.as₁, u.2 ∙ sym (row_args n u.0.as₁ u.1)); near = is.1 }
+
+  pub args_few : ThereS m i → (us : List (List ℕ)) → ArgumentsAt m (i + 4) n us → length us ≡ n
+  args_few t us e = let u = args_there t in sym (length_args us) ∙ ap (λ bs. length bs) (e u.as₁ u.rest u.here) ∙ u.here.0
 
   by_call : (o : Option (VarSet × ℕ)) → ((g : Prog) → Placed m.rows m.starts g → (as₁ : List Arg) (rest : List ℕ) → ArgsAt m (i + 4) n as₁ rest → KeptTo m i (keeps g m.sig (S.call x.0 f as₁) (full_of m k)) rest o) → SaysS m i k o
   by_call o h = by_head m i (Call x f n) is k o (λ g p v rest e. h g p (list_t n v.as₁) rest (length_list_t Arg n v.as₁, e ∙ sym (row_args n v.as₁ rest)))
@@ -50,28 +54,51 @@ module _ (m : Seen) (i : ℕ) (x : Var) (f n : ℕ) (k : VarSet) (is : HeadAt m.
             → keeps g m.sig (S.call x.0 f as₁) (full_of m k) ≡ when b (both (hands m.sig c.sig 0 as₁ (full_of m k)) (λ d. when (is_num m.sig x.0 || not (lent_away x.0 as₁)) (Some (set d x.0 true))))
         compared b e g p as₁ = meets g p as₁ ∙ ap (λ q. when q (both (hands m.sig c.sig 0 as₁ (full_of m k)) (λ d. when (is_num m.sig x.0 || not (lent_away x.0 as₁)) (Some (set d x.0 true))))) e
 
-        pub call_unlike : (y ≡ z → ⊥) → SaysS m i k None
-        call_unlike l = by_call None (λ g p as₁ rest h. compared false (ne_eqb _ _ (λ w. l (ey ∙ w ∙ sym ez))) g p as₁)
+        -- the kinds that the code has are those of the rules
+        kinds : eqb (kind m.sig x.0) (kind c.sig c.sig.result) ≡ eqb y z
+        kinds = λ w. eqb (sym ey w) (sym ez w)
 
-        module _ (same : y ≡ z) where
+        pub call_unlike : true ≡ not (eqb y z) → SaysS m i k None
+        call_unlike l = by_call None (λ g p as₁ rest h. compared false (kinds ∙ not-true (eqb y z) (sym l)) g p as₁)
+
+        module _ (same : false ≡ not (eqb y z)) where
           handed : (w : Option Full) (g : Prog) → Placed m.rows m.starts g → (as₁ : List Arg) → hands m.sig c.sig 0 as₁ (full_of m k) ≡ w
               → keeps g m.sig (S.call x.0 f as₁) (full_of m k) ≡ both w (λ d. when (is_num m.sig x.0 || not (lent_away x.0 as₁)) (Some (set d x.0 true)))
-          handed w g p as₁ e = compared true (eq-eqb _ _ (sym ey ∙ same ∙ ez)) g p as₁ ∙ ap (λ q. both q (λ d. when (is_num m.sig x.0 || not (lent_away x.0 as₁)) (Some (set d x.0 true)))) e
+          handed w g p as₁ e = compared true (kinds ∙ not-false (eqb y z) (sym same)) g p as₁ ∙ ap (λ q. both q (λ d. when (is_num m.sig x.0 || not (lent_away x.0 as₁)) (Some (set d x.0 true)))) e
 
-          pub call_unhanded : SaysHands m c (i + 4) n k None → SaysS m i k None
-          call_unhanded h = by_call None (λ g p as₁ rest a. handed None g p as₁ (h as₁ rest a))
+          -- by the words of the arguments
+          module _ (us : List (List ℕ)) (the : ArgumentsAt m (i + 4) n us) where
+            pub call_unhanded : After m (hands m.sig c.sig 0 (args_of us) (full_of m k)) None → SaysS m i k None
+            call_unhanded h = by_call None (λ g p as₁ rest a. handed None g p as₁ (ap (λ bs. hands m.sig c.sig 0 bs (full_of m k)) (sym (the as₁ rest a)) ∙ h))
 
-          module _ (d : VarSet) (h : SaysHands m c (i + 4) n k (Some d)) where
-            pub call_lent : SaysHere m x.0 (i + 4) n false → SaysS m i k None
-            call_lent l = by_call None (λ g p as₁ rest a. handed (Some (full_of m d)) g p as₁ (h as₁ rest a) ∙ ap (λ b. when b (Some (set (full_of m d) x.0 true))) (sym (l as₁ rest a)))
+            module _ (d : VarSet) (h : After m (hands m.sig c.sig 0 (args_of us) (full_of m k)) (Some d)) where
+              handed_over : (b : Bool) → b ≡ (is_num m.sig x.0 || not (lent_away x.0 (args_of us))) → (g : Prog) → Placed m.rows m.starts g → (as₁ : List Arg) (rest : List ℕ) → ArgsAt m (i + 4) n as₁ rest
+                  → keeps g m.sig (S.call x.0 f as₁) (full_of m k) ≡ when b (Some (set (full_of m d) x.0 true))
+              handed_over b l g p as₁ rest a =
+                  let e = the as₁ rest a in
+                  handed (Some (full_of m d)) g p as₁ (ap (λ bs. hands m.sig c.sig 0 bs (full_of m k)) (sym e) ∙ h)
+                  ∙ ap (λ z. when z (Some (set (full_of m d) x.0 true))) (sym (l ∙ ap (λ bs. is_num m.sig x.0 || not (lent_away x.0 bs)) e))
 
-            pub calls : SaysHere m x.0 (i + 4) n true → (o : VarSet) → full_of m o ≡ set (full_of m d) x.0 true → SaysS m i k (Some (o, i + 4 + 2 * n))
-            calls l o e =
-                by_call (Some (o, i + 4 + 2 * n)) (λ g p as₁ rest a.
-                let w = args_past m (i + 4) as₁ rest is.1 a.1 in
-                let j : i + 4 + 2 * length as₁ ≡ i + 4 + 2 * n = omega (arith, a.0) in (
-                  handed (Some (full_of m d)) g p as₁ (h as₁ rest a) ∙ ap (λ b. when b (Some (set (full_of m d) x.0 true))) (sym (l as₁ rest a)) ∙ ap (λ q. Some q) (sym e),
-                  ap (λ q. drop q m.rows) (sym j) ∙ w.0,
-                  omega (arith, w.1, j),
-                  omega arith,
-                ))
+              -- the destination is not lent away
+              pub call_lent : false ≡ is_num m.sig x.0 → true ≡ list_any (λ w. eqb (get_or w 1 0) 1 && eqb x.0 (get_or w 0 0)) us → SaysS m i k None
+              call_lent n l =
+                  by_call None (λ g p as₁ rest a.
+                  handed_over false (ap (λ b. not b) (l ∙ any_lends x.0 us) ∙ ap (λ b. b || not (lent_away x.0 (args_of us))) n) g p as₁ rest a)
+
+              module _ (o : VarSet) (e : full_of m o ≡ set (full_of m d) x.0 true) where
+                called_well : true ≡ (is_num m.sig x.0 || not (lent_away x.0 (args_of us))) → SaysS m i k (Some (o, i + 4 + 2 * n))
+                called_well l =
+                    by_call (Some (o, i + 4 + 2 * n)) (λ g p as₁ rest a.
+                    let w = args_past m.rows (i + 4) as₁ rest is.1 a.1 in
+                    let j : i + 4 + 2 * length as₁ ≡ i + 4 + 2 * n = omega (arith, a.0) in (
+                      handed_over true l g p as₁ rest a ∙ ap (λ q. Some q) (sym e),
+                      ap (λ q. drop q m.rows) (sym j) ∙ w.0,
+                      omega (arith, w.1, j),
+                      omega arith,
+                    ))
+
+                pub calls_number : true ≡ is_num m.sig x.0 → SaysS m i k (Some (o, i + 4 + 2 * n))
+                calls_number n = called_well (ap (λ b. b || not (lent_away x.0 (args_of us))) n)
+
+                pub calls_box : false ≡ is_num m.sig x.0 → false ≡ list_any (λ w. eqb (get_or w 1 0) 1 && eqb x.0 (get_or w 0 0)) us → SaysS m i k (Some (o, i + 4 + 2 * n))
+                calls_box n l = called_well (ap (λ b. not b) (l ∙ any_lends x.0 us) ∙ ap (λ b. b || not (lent_away x.0 (args_of us))) n)

@@ -10,8 +10,8 @@ use Rattle.owned.specs.Program.{E, S, Sig, Prog, kind}
 use Rattle.owned.specs.Rows.{row_e, row_s}
 use Rattle.owned.specs.Kept.{Full, is_num, takes, numbers, keeps, both, when, joined, alike}
 use Rattle.owned.specs.Decode.{between}
-use Rattle.owned.specs.Ends.{HeadAt}
-use Rattle.owned.specs.Views.{Seen, full_of, Fit, SaysE, ThereE, KeptTo, SaysS, ThereS, allows, leaves}
+use Rattle.owned.specs.Ends.{HeadAt, StandsS}
+use Rattle.owned.specs.Views.{Seen, full_of, SaysE, ThereE, KeptTo, SaysS, ThereS, allows, leaves}
 use Rattle.owned.proofs.Reading.{by_head, parts_there, later}
 
 and_assoc : (a b c : Bool) → (a && (b && c)) ≡ ((a && b) && c)
@@ -24,11 +24,15 @@ pub record Next (m : Seen) (i j : ℕ) : Type 0 where
   pub later : i < j
   pub within : j ≤ length m.rows
 
-next_s : (m : Seen) (i : ℕ) (k : VarSet) → Fit m → (p : VarSet × ℕ) → SaysS m i k (Some p) → (s t : S) (rest : List ℕ) → drop i m.rows ≡ row_s s ++ (row_s t ++ rest) → Next m i p.1
-next_s m i k fit p f s t rest e = let u = f fit.g fit.placed s (row_s t ++ rest) e in record { there = (t, rest, u.1); later = u.3; within = u.2 }
+-- another statement of the same rows
+there_at : (m : Seen) (i j : ℕ) → ThereS m i → StandsS m.rows j → ThereS m j
+there_at m i j t h = record { g = t.g; placed = t.placed; here = h }
 
-next_e : (m : Seen) (i j : ℕ) → SaysE m i (Some j) → (e : E) (t : S) (rest : List ℕ) → drop i m.rows ≡ row_e e ++ (row_s t ++ rest) → Next m i j
-next_e m i j f e t rest h = let u = f e (row_s t ++ rest) h in record { there = (t, rest, u.1); later = u.3; within = u.2 }
+next_s : (m : Seen) (h i : ℕ) (k : VarSet) → ThereS m h → (p : VarSet × ℕ) → SaysS m i k (Some p) → (s t : S) (rest : List ℕ) → drop i m.rows ≡ row_s s ++ (row_s t ++ rest) → Next m i p.1
+next_s m h i k z p f s t rest e = let u = f z.g z.placed s (row_s t ++ rest) e in record { there = there_at m h p.1 z (t, rest, u.1); later = u.3; within = u.2 }
+
+next_e : (m : Seen) (h i j : ℕ) → ThereS m h → SaysE m i (Some j) → (e : E) (t : S) (rest : List ℕ) → drop i m.rows ≡ row_e e ++ (row_s t ++ rest) → Next m i j
+next_e m h i j z f e t rest q = let u = f e (row_s t ++ rest) q in record { there = there_at m h j z (t, rest, u.1); later = u.3; within = u.2 }
 
 keeps_between : (g : Prog) (p : Sig) (o : Transfer) (x y : ℕ) (c : Full) → keeps g p (between o x y) c ≡ when (allows o p c x y) (Some (leaves o p c x y))
 keeps_between g p Box x y c = refl
@@ -91,10 +95,10 @@ module _ (m : Seen) (i : ℕ) (k : VarSet) where
 
   module _ (is : HeadAt m.rows i (Some Then)) where
     pub first_there : ThereS m i → ThereS m (i + 1)
-    first_there t = let u = parts_there m i Then is t in (u.0.ss.0, row_s u.0.ss.1.0 ++ u.1, u.2)
+    first_there t = let u = parts_there m i Then is t in there_at m i (i + 1) t (u.0.ss.0, row_s u.0.ss.1.0 ++ u.1, u.2)
 
-    pub second_there : (p : VarSet × ℕ) → Fit m → ThereS m i → SaysS m (i + 1) k (Some p) → Next m (i + 1) p.1
-    second_there p fit t f = let u = parts_there m i Then is t in next_s m (i + 1) k fit p f u.0.ss.0 u.0.ss.1.0 u.1 u.2
+    pub second_there : (p : VarSet × ℕ) → ThereS m i → SaysS m (i + 1) k (Some p) → Next m (i + 1) p.1
+    second_there p t f = let u = parts_there m i Then is t in next_s m i (i + 1) k t p f u.0.ss.0 u.0.ss.1.0 u.1 u.2
 
     pub no_first : SaysS m (i + 1) k None → SaysS m i k None
     no_first f = by_head m i Then is k None (λ g p v rest e. ap (λ q. both q (λ d. keeps g m.sig v.ss.1.0 d)) (f g p v.ss.0 (row_s v.ss.1.0 ++ rest) e))
@@ -111,7 +115,7 @@ module _ (m : Seen) (i : ℕ) (k : VarSet) where
     turn_there t = let u = parts_there m i While is t in (u.0.es.0, row_s u.0.ss.0 ++ u.1, u.2)
 
     pub body_there : (j : ℕ) → ThereS m i → SaysE m (i + 1) (Some j) → Next m (i + 1) j
-    body_there j t f = let u = parts_there m i While is t in next_e m (i + 1) j f u.0.es.0 u.0.ss.0 u.1 u.2
+    body_there j t f = let u = parts_there m i While is t in next_e m i (i + 1) j t f u.0.es.0 u.0.ss.0 u.1 u.2
 
     pub no_turn : SaysE m (i + 1) None → SaysS m i k None
     no_turn f = by_head m i While is k None (λ g p v rest e. ap (λ q. when q (joined (Some (full_of m k)) (keeps g m.sig v.ss.0 (full_of m k)))) (f v.es.0 (row_s v.ss.0 ++ rest) e))
@@ -143,13 +147,13 @@ module _ (m : Seen) (i : ℕ) (k : VarSet) where
     test_there t = let u = parts_there m i If is t in (u.0.es.0, row_s u.0.ss.0 ++ (row_s u.0.ss.1.0 ++ u.1), u.2)
 
     pub then_there : (j : ℕ) → ThereS m i → SaysE m (i + 1) (Some j) → Next m (i + 1) j
-    then_there j t f = let u = parts_there m i If is t in next_e m (i + 1) j f u.0.es.0 u.0.ss.0 (row_s u.0.ss.1.0 ++ u.1) u.2
+    then_there j t f = let u = parts_there m i If is t in next_e m i (i + 1) j t f u.0.es.0 u.0.ss.0 (row_s u.0.ss.1.0 ++ u.1) u.2
 
-    pub else_there : (j : ℕ) (q : VarSet × ℕ) → Fit m → ThereS m i → SaysE m (i + 1) (Some j) → SaysS m j k (Some q) → Next m (i + 1) q.1
-    else_there j q fit t f h =
+    pub else_there : (j : ℕ) (q : VarSet × ℕ) → ThereS m i → SaysE m (i + 1) (Some j) → SaysS m j k (Some q) → Next m (i + 1) q.1
+    else_there j q t f h =
         let u = parts_there m i If is t in
         let w = f u.0.es.0 (row_s u.0.ss.0 ++ (row_s u.0.ss.1.0 ++ u.1)) u.2 in
-        let n = next_s m j k fit q h u.0.ss.0 u.0.ss.1.0 u.1 w.1 in
+        let n = next_s m i j k t q h u.0.ss.0 u.0.ss.1.0 u.1 w.1 in
         record { there = n.there; later = omega (arith, n.later, w.3); within = n.within }
 
     pub no_test : SaysE m (i + 1) None → SaysS m i k None

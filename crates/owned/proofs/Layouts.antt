@@ -3,9 +3,9 @@
 use Rattle.std.proofs.Common.{◌≡◌, ℕ, zero, suc, ◌+◌, ◌-◌, ◌<◌, ◌≤◌, List, [], ◌∷◌, ◌++◌, length, get_or, take, drop, Some, None, sym, refl, ap, ◌∙◌, arith}
 use Rattle.std.specs.List.{slice_get}
 use Rattle.std.proofs.lemmas.List.{drop-drop}
-use Rattle.owned.specs.Program.{Proc, Prog}
+use Rattle.owned.specs.Program.{Proc, Prog, Sig}
 use Rattle.owned.specs.Rows.{row_s, row_p}
-use Rattle.owned.specs.Ends.{Placed}
+use Rattle.owned.specs.Ends.{SignatureIn, Placed}
 use Rattle.owned.specs.Views.{Seen, SeenAt, Found}
 
 -- the word at a place where the rest begins with it
@@ -73,20 +73,10 @@ module _ (ws : List ℕ) (t k a : ℕ) (ek : k ≡ get_or ws t 0) (ea : a ≡ ge
       let e : k ≡ length q.sig.kinds = ek ∙ y.many in
       (y, e, ea ∙ ap (λ z. get_or ws (t + 1 + z) 0) e ∙ y.few)
 
-  module _ (p : (q : Proc) × (rest : List ℕ) × (drop t ws ≡ row_p q rest)) where
-    pub room_next : t + 1 + k < length ws
-    room_next = let u = lay p.0 p.1 p.2 in omega (arith, u.0.next, u.1)
-
-    pub room_last : t + 1 + k + 1 + a < length ws
-    room_last = let u = lay p.0 p.1 p.2 in omega (arith, u.0.last, u.1, u.2)
-
   -- what is cut out of the rows there is the procedure
-  pub seen_at : (ts : List ℕ) (m : Seen) → m.rows ≡ ws → m.starts ≡ ts → m.sig.kinds ≡ take (t + 1 + k - (t + 1)) (drop (t + 1) ws) → m.sig.args ≡ take (t + 1 + k + 1 + a - (t + 1 + k + 1)) (drop (t + 1 + k + 1) ws)
-      → m.sig.result ≡ get_or ws (t + 1 + k + 1 + a) 0 → m.body ≡ t + 1 + k + 1 + a + 1 → SeenAt ws ts t m
-  seen_at ts m e1 e2 e3 e4 e5 e6 =
+  pub seen_at : (p : Sig) (body : ℕ) → p.kinds ≡ take (t + 1 + k - (t + 1)) (drop (t + 1) ws) → p.args ≡ take (t + 1 + k + 1 + a - (t + 1 + k + 1)) (drop (t + 1 + k + 1) ws) → p.result ≡ get_or ws (t + 1 + k + 1 + a) 0 → body ≡ t + 1 + k + 1 + a + 1 → SeenAt ws t p body
+  seen_at p body e3 e4 e5 e6 =
       record {
-        rows = e1;
-        starts = e2;
         later = omega (arith, e6);
         sees = λ q rest h. (let u = lay q rest h in
             let c : t + 1 + k - (t + 1) ≡ length q.sig.kinds = omega (arith, u.1) in
@@ -102,13 +92,21 @@ module _ (ws : List ℕ) (t k a : ℕ) (ek : k ≡ get_or ws t 0) (ea : a ≡ ge
             ));
       }
 
+-- a procedure's signature is in the rows
+pub signature_in : (ws : List ℕ) (t : ℕ) (q : Proc) (rest : List ℕ) → drop t ws ≡ row_p q rest → SignatureIn ws t
+signature_in ws t q rest h =
+    let y = layout ws t q rest h in
+    let e : t + 1 + get_or ws t 0 ≡ t + 1 + length q.sig.kinds = omega (arith, y.many) in
+    let f : get_or ws (t + 1 + get_or ws t 0) 0 ≡ length q.sig.args = ap (λ z. get_or ws z 0) e ∙ y.few in
+    (omega (arith, y.next), omega (arith, e, y.next), omega (arith, e, f, y.last))
+
 -- by the table
-pub found : (ws ts : List ℕ) (f : ℕ) (m : Seen) → f < length ts → SeenAt ws ts (get_or ts f 0) m → Found ws ts f m
-found ws ts f m l v =
+pub found : (ws ts : List ℕ) (f : ℕ) (p : Sig) (body : ℕ) → f < length ts → SeenAt ws (get_or ts f 0) p body → Found ws ts f (record { rows = ws; starts = ts; sig = p; body = body })
+found ws ts f p body l v =
     record {
-      rows = v.rows;
-      starts = v.starts;
+      rows = refl;
+      starts = refl;
       sees = λ g h. (let u = placed_at ws ts g f h l in
           let w = v.sees u.0 u.2.0 u.2.1 in
-          (u.0, u.1, record { sig = w.0; body = (u.2.0, ap (λ us. drop m.body us) v.rows ∙ w.1) }));
+          (u.0, u.1, record { sig = w.0; body = (u.2.0, w.1) }));
     }

@@ -1,13 +1,14 @@
 -- The public promises, from what the code found: the theorems that they carry, and what each answer says.
 -- An answer other than too few work words is one of three, each with its own reason.
-use Rattle.std.proofs.Common.{◌≡◌, ℕ, ◌<◌, ◌≤◌, true, false, leb, List, length, take, None, sym, refl, ap, subst, arith, leb→le}
+use Rattle.std.proofs.Common.{◌≡◌, ℕ, ◌<◌, ◌≤◌, true, false, T, leb, List, length, Some, None, sym, refl, ap, arith, leb→le}
 use Rattle.std.proofs.lemmas.Bool.{leb-true, leb-false}
 use Rattle.owned.specs.declared.Judged.{Judged}
 use Rattle.owned.specs.declared.Judged.TheVariants.{Keeps, Careless, NoProgram, Few}
 use Rattle.owned.specs.Program.{Prog}
 use Rattle.owned.specs.Kept.{kept}
 use Rattle.owned.specs.Decode.{read_ps}
-use Rattle.owned.specs.Ends.{Placed, Whole}
+use Rattle.owned.specs.Rows.{ok_ps}
+use Rattle.owned.specs.Ends.{Placed}
 use Rattle.owned.specs.Views.{Fine}
 use Rattle.owned.specs.Says.{Parts, JudgedSays, JudgedPost, floor}
 use Rattle.owned.proofs.Chains.{T_and}
@@ -34,6 +35,9 @@ parts = record {
   any_cells = any_cells machine_runs;
 }
 
+pub fine : (s us ts : List ℕ) (g : Prog) → Placed us ts g → read_ps 64 s ≡ Some g → Fine us ts
+fine s us ts g p e = record { g = g; placed = p; ok = ((exact_decoder.programs 64 s g).0 e).2 }
+
 pub few_post : (s : List ℕ) (w : ℕ) → false ≡ leb (floor s) w → JudgedPost s w Few
 few_post s w h = record { says = tt; parts = parts; few = (λ l. refl, λ e. leb-false (floor s) w (sym h)) }
 
@@ -55,16 +59,10 @@ module _ (s : List ℕ) (w : ℕ) (h : true ≡ leb (floor s) w) where
   pub unread_post : read_ps 64 s ≡ None → JudgedPost s w NoProgram
   unread_post e = post NoProgram refl (λ g r. let f = read_rows s g r in let z : ◌≡◌ {A = ℕ} 0 1 = cc in omega arith)
 
-  -- the table's first c words are where the n procedures begin
-  module _ (l : length s ≤ 16384) (ts : List ℕ) (n : ℕ) (k : Whole s ts n) (c : ℕ) (e : c ≡ n) where
-    placed : Placed s (take c ts) k.g
-    placed = subst (λ m. Placed s (take m ts) k.g) (sym e) k.placed
+  -- what is read is the program that it was read as
+  module _ (l : length s ≤ 16384) (us ts : List ℕ) (g : Prog) (placed : Placed us ts g) (read : read_ps 64 s ≡ Some g) where
+    pub keeps_post : ((h : Prog) → Placed us ts h → true ≡ kept h) → JudgedPost s w Keeps
+    keeps_post f = post Keeps refl (g, rows_read s g l read, sym (f g placed))
 
-    pub fine : Fine s (take c ts)
-    fine = record { g = k.g; placed = placed; ok = ((exact_decoder.programs 64 s k.g).0 k.read).2 }
-
-    pub keeps_post : ((g : Prog) → Placed s (take c ts) g → true ≡ kept g) → JudgedPost s w Keeps
-    keeps_post f = post Keeps refl (k.g, rows_read s k.g l k.read, sym (f k.g placed))
-
-    pub careless_post : ((g : Prog) → Placed s (take c ts) g → false ≡ kept g) → JudgedPost s w Careless
-    careless_post f = post Careless refl (k.g, rows_read s k.g l k.read, sym (f k.g placed))
+    pub careless_post : ((h : Prog) → Placed us ts h → false ≡ kept h) → JudgedPost s w Careless
+    careless_post f = post Careless refl (g, rows_read s g l read, sym (f g placed))

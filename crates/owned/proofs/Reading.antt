@@ -1,6 +1,6 @@
 -- What stands at a place of the rows, by its head: any expression or statement written there has that head and parts.
 -- So what a function found for the head holds of every statement that could be meant.
-use Rattle.std.proofs.Common.{◌≡◌, ℕ, ◌+◌, ◌<◌, ◌≤◌, Bool, true, false, ◌&&◌, List, [], ◌++◌, length, drop, Some, None, Option, sym, refl, ap, ◌∙◌, subst, inl, inr, arith}
+use Rattle.std.proofs.Common.{◌≡◌, ℕ, ◌+◌, ◌<◌, ◌≤◌, Bool, true, false, ◌&&◌, List, [], ◌++◌, length, drop, Some, None, Option, sym, refl, ap, ◌∙◌, subst, inl, inr, arith, rules, IsSome}
 use Rattle.std.proofs.lemmas.List.{drop_all}
 use Rattle.std.proofs.lemmas.Bool.{cases_lt}
 use Rattle.owned.specs.declared.decode.Operator.{Operator}
@@ -14,7 +14,7 @@ use Rattle.owned.specs.Program.{E, S, Sig, Prog}
 use Rattle.owned.specs.Rows.{row_e, row_s}
 use Rattle.owned.specs.Kept.{Full, there, is_num, numbers, keeps}
 use Rattle.owned.specs.Decode.{Hit, Tuple, node_of, node_shape, binary, make_e, head_of, head_shape, Parts, make}
-use Rattle.owned.specs.Ends.{NodeAt, HeadAt, Placed}
+use Rattle.owned.specs.Ends.{NodeAt, HeadAt, StandsE, StandsS, Placed}
 use Rattle.owned.specs.Views.{Seen, full_of, Numbered, SaysE, ThereE, KeptTo, SaysS, ThereS}
 use Rattle.owned.proofs.Chains.{row_t}
 use Rattle.owned.proofs.Expressions.{row_make_e, node_complete, ViewE, view_e}
@@ -36,8 +36,12 @@ see_e us vs h k e rest q =
     let (a, b) = hit_head h v.head vs (row_t row_e (node_shape v.head).exprs v.operands rest) (sym k ∙ ap node_of q ∙ r) in
     subst (λ z. ((es : Tuple E (node_shape z).exprs) × (make_e z es ≡ e) × (vs ≡ row_t row_e (node_shape z).exprs es rest))) (sym a) (v.operands, v.same, b)
 
-pub no_node_there : (m : Seen) (i : ℕ) → NodeAt m.rows i None → ThereE m i → ⊥
-no_node_there m i k (e, rest, h) = let r = (read_e_lem e rest).1 in let q = ap node_of h in let z : ◌≡◌ {A = ℕ} 0 1 = cc in omega arith
+no_node_there : (ws : List ℕ) (i : ℕ) → NodeAt ws i None → StandsE ws i → ⊥
+no_node_there ws i k (e, rest, h) = let r = (read_e_lem e rest).1 in let q = ap node_of h in let z : ◌≡◌ {A = ℕ} 0 1 = cc in omega arith
+
+pub there_e : (ws : List ℕ) (i : ℕ) → StandsE ws i → (o : Option Expression) → NodeAt ws i o → IsSome o
+there_e ws i t None k = absurd (no_node_there ws i k t)
+there_e ws i t (Some h) k = search rules
 
 numbers_binary : (p : Sig) (o : Operator) (a b : E) → numbers p (binary o a b) ≡ (numbers p a && numbers p b)
 numbers_binary p Add a b = refl
@@ -53,8 +57,8 @@ nearer m i j b d rest (Some z) l e k = (e ∙ k.0, k.1, k.2, omega (arith, k.3))
 nothing_there : (ws : List ℕ) (i : ℕ) (us : List ℕ) → drop i ws ≡ us → (us ≡ [] → ⊥) → i < length ws
 nothing_there ws i us e f = elim (cases_lt i (length ws)) [ inl l ↦ l | inr l ↦ absurd (f (sym e ∙ drop_all i ws l)) ]
 
-pub in_rows_e : (m : Seen) (i : ℕ) → ThereE m i → i < length m.rows
-in_rows_e m i (e, rest, h) = nothing_there m.rows i (row_e e ++ rest) h (λ z. let r = (read_e_lem e rest).1 in let q = ap node_of z in let y : ◌≡◌ {A = ℕ} 0 1 = cc in omega arith)
+pub stands_e_within : (ws : List ℕ) (i : ℕ) → StandsE ws i → i < length ws
+stands_e_within ws i (e, rest, h) = nothing_there ws i (row_e e ++ rest) h (λ z. let r = (read_e_lem e rest).1 in let q = ap node_of z in let y : ◌≡◌ {A = ℕ} 0 1 = cc in omega arith)
 
 module _ (m : Seen) (i : ℕ) where
   pub says_number : (k : ℕ) → NodeAt m.rows i (Some (Number k)) → SaysE m i (Some (i + 2))
@@ -109,11 +113,15 @@ see_s us vs h k s rest e =
     let (a, b) = hit_head h v.head vs (row_parts v.head v.parts rest) (sym k ∙ ap head_of e ∙ r) in
     subst (λ z. ((p : Parts z) × (make z p ≡ s) × (vs ≡ row_parts z p rest))) (sym a) (v.parts, v.same, b)
 
-pub no_head_there : (m : Seen) (i : ℕ) → HeadAt m.rows i None → ThereS m i → ⊥
-no_head_there m i k (s, rest, h) = let r = (read_s_lem s rest).1 in let q = ap head_of h in let z : ◌≡◌ {A = ℕ} 0 1 = cc in omega arith
+no_head_there : (ws : List ℕ) (i : ℕ) → HeadAt ws i None → StandsS ws i → ⊥
+no_head_there ws i k (s, rest, h) = let r = (read_s_lem s rest).1 in let q = ap head_of h in let z : ◌≡◌ {A = ℕ} 0 1 = cc in omega arith
 
-pub in_rows : (m : Seen) (i : ℕ) → ThereS m i → i < length m.rows
-in_rows m i (s, rest, h) = nothing_there m.rows i (row_s s ++ rest) h (λ z. let r = (read_s_lem s rest).1 in let q = ap head_of z in let y : ◌≡◌ {A = ℕ} 0 1 = cc in omega arith)
+pub there_s : (ws : List ℕ) (i : ℕ) → StandsS ws i → (o : Option Statement) → HeadAt ws i o → IsSome o
+there_s ws i t None k = absurd (no_head_there ws i k t)
+there_s ws i t (Some h) k = search rules
+
+pub stands_s_within : (ws : List ℕ) (i : ℕ) → StandsS ws i → i < length ws
+stands_s_within ws i (s, rest, h) = nothing_there ws i (row_s s ++ rest) h (λ z. let r = (read_s_lem s rest).1 in let q = ap head_of z in let y : ◌≡◌ {A = ℕ} 0 1 = cc in omega arith)
 
 module _ (m : Seen) (i : ℕ) (h : Statement) (is : HeadAt m.rows i (Some h)) where
   -- what holds of the head with any parts holds of every statement there
@@ -123,7 +131,7 @@ module _ (m : Seen) (i : ℕ) (h : Statement) (is : HeadAt m.rows i (Some h)) wh
       subst (λ z. KeptTo m i (keeps g m.sig z (full_of m k)) rest o) t.1 (f g p t.0 rest t.2)
 
   pub parts_there : ThereS m i → (v : Parts h) × (rest : List ℕ) × (drop (i + (head_shape h).words) m.rows ≡ row_parts h v rest)
-  parts_there t = let u = see_s (drop i m.rows) (drop (i + (head_shape h).words) m.rows) h is.0 t.0 t.1 t.2 in (u.0, t.1, u.2)
+  parts_there t = let u = see_s (drop i m.rows) (drop (i + (head_shape h).words) m.rows) h is.0 t.here.0 t.here.1 t.here.2 in (u.0, t.here.1, u.2)
 
 -- what holds from a later place on
 pub later : (m : Seen) (i j : ℕ) (c : Option Full) (rest : List ℕ) (o : Option (VarSet × ℕ)) → i < j → KeptTo m j c rest o → KeptTo m i c rest o

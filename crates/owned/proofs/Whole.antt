@@ -8,12 +8,13 @@ use Rattle.owned.specs.declared.varset.VarSet.{VarSet}
 use Rattle.owned.specs.Program.{S, Sig, Proc, Prog}
 use Rattle.owned.specs.Rows.{ok_p, ok_ps}
 use Rattle.owned.specs.Kept.{Full, is_full, is_num, there, keeps, begins, ends_well, kept1, kept_all, starts}
-use Rattle.owned.specs.Ends.{Placed}
-use Rattle.owned.specs.Views.{Seen, full_of, Fit, ThereS, SaysS, Sees, Found, SaysKept, Fine}
+use Rattle.owned.specs.VarSets.{bit_of}
+use Rattle.owned.specs.Ends.{SignatureIn, Placed}
+use Rattle.owned.specs.Views.{Seen, full_of, ThereS, SaysS, Sees, Found, SaysKept, Fine}
 use Rattle.owned.proofs.Chains.{T_and}
 use Rattle.owned.proofs.Programs.{sig_off, ok_off}
-use Rattle.owned.proofs.Bits.{Chosen, chosen_all}
-use Rattle.owned.proofs.Layouts.{placed_length}
+use Rattle.owned.proofs.Bits.{bits_are}
+use Rattle.owned.proofs.Layouts.{placed_at, placed_length, signature_in}
 
 -- full at the start
 abbrev pub starts_full : Sig → ℕ → Bool
@@ -28,15 +29,12 @@ length_begins : (i : ℕ) (p : Sig) (ks : List ℕ) → length (begins i p ks) �
 length_begins i p [] = refl
 length_begins i p (k ∷ ks) = ap suc (length_begins (i + 1) p ks)
 
--- of the variables below i those that start full, and none of the others
-abbrev pub Begun : Seen → ℕ → VarSet → Type 0
-Begun m i k = Chosen (length m.sig.kinds) (λ x. starts_full m.sig x) i k.0
-
-pub begun_all : (m : Seen) (k : VarSet) (n : ℕ) → n ≡ length m.sig.kinds → Begun m n k → full_of m k ≡ begins 0 m.sig m.sig.kinds
-begun_all m k n e f =
-    chosen_all (length m.sig.kinds) (λ x. starts_full m.sig x) n k.0 e f (begins 0 m.sig m.sig.kinds) (length_begins 0 m.sig m.sig.kinds) (λ j l.
+-- a set that has the variables that start full, and no others
+pub begun_all : (m : Seen) (k : VarSet) → ((x : ℕ) → x < length m.sig.kinds → bit_of k.0 x ≡ starts_full m.sig x) → full_of m k ≡ begins 0 m.sig m.sig.kinds
+begun_all m k f =
+    bits_are (length m.sig.kinds) k.0 (begins 0 m.sig m.sig.kinds) (length_begins 0 m.sig m.sig.kinds) (λ j l.
     let z : 0 + j ≡ j = omega arith in
-    begins_get 0 m.sig m.sig.kinds j l ∙ ap (λ q. ltb q (length m.sig.args) || eqb (get_or m.sig.kinds j 0) 0) z)
+    f j l ∙ sym (begins_get 0 m.sig m.sig.kinds j l ∙ ap (λ q. ltb q (length m.sig.args) || eqb (get_or m.sig.kinds j 0) 0) z))
 
 -- procedures
 module _ (m : Seen) where
@@ -78,6 +76,10 @@ ok_at [] f q h e = let z : ◌≡◌ {A = ℕ} 0 1 = cc e in absurd (omega arith
 ok_at (p ∷ ps) zero q h e = let d : p ≡ q = cc e in subst (λ z. T (ok_p z)) d (T_and (ok_p p) (ok_ps ps) h).0
 ok_at (p ∷ ps) (suc f) q h e = ok_at ps f q (T_and (ok_p p) (ok_ps ps) h).1 e
 
+-- where the table says, a signature is in the rows
+pub begins_at : (ws ts : List ℕ) (g : Prog) → Placed ws ts g → (f : ℕ) → f < length ts → SignatureIn ws (get_or ts f 0)
+begins_at ws ts g p f l = let u = placed_at ws ts g f p l in signature_in ws (get_or ts f 0) u.0 u.2.0 u.2.1
+
 -- the procedures from f on, beside all
 abbrev pub Rest : List ℕ → List ℕ → ℕ → Type 0
 Rest ws ts f = (g : Prog) → Placed ws ts g → kept_all g (drop f g) ≡ kept_all g g
@@ -89,14 +91,14 @@ module _ (ws ts : List ℕ) (f : ℕ) (m : Seen) (v : Found ws ts f m) where
   placed : (g : Prog) → Placed ws ts g → Placed m.rows m.starts g
   placed g p = subst (λ us. Placed us m.starts g) (sym v.rows) (subst (λ us. Placed ws us g) (sym v.starts) p)
 
-  pub found_fit : Fine ws ts → length ws ≤ 16384 → Fit m
-  found_fit k l =
+  pub found_few : Fine ws ts → length m.sig.kinds ≤ 32
+  found_few k =
       let u = v.sees k.g k.placed in
       let o = sig_off u.0.sig (ok_off u.0 (ok_at k.g f u.0 k.ok u.1)).0 in
-      record { g = k.g; placed = placed k.g k.placed; kinds = rw u.2.sig (leb→le (length u.0.sig.kinds) 32 o.kinds); rows = rw v.rows l }
+      rw u.2.sig (leb→le (length u.0.sig.kinds) 32 o.kinds)
 
   pub found_there : Fine ws ts → ThereS m m.body
-  found_there k = let u = v.sees k.g k.placed in (u.0.body, u.2.body.0, u.2.body.1)
+  found_there k = let u = v.sees k.g k.placed in record { g = k.g; placed = placed k.g k.placed; here = (u.0.body, u.2.body.0, u.2.body.1) }
 
   kept_is : (g : Prog) → Placed ws ts g → (b : Bool) → SaysKept m b → kept_all g (drop f g) ≡ (b && kept_all g (drop (f + 1) g))
   kept_is g p b k =

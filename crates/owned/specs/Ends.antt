@@ -1,10 +1,10 @@
 -- Where in the rows what was decoded ends, as the code says it, and where procedures begin.
-use Rattle.std.specs.Prelude.{◌≡◌, ℕ, ◌+◌, ◌<◌, ◌≤◌, List, [], ◌∷◌, length, take, drop, Some, None, Option, slice_index}
+use Rattle.std.specs.Prelude.{◌≡◌, ℕ, ◌+◌, ◌<◌, ◌≤◌, List, [], ◌∷◌, ◌++◌, length, take, drop, Some, None, Option, slice_index}
 use Rattle.owned.specs.declared.decode.Expression.{Expression}
 use Rattle.owned.specs.declared.decode.Statement.{Statement}
 use Rattle.owned.specs.declared.decode.Shape.{Shape}
-use Rattle.owned.specs.Program.{Prog}
-use Rattle.owned.specs.Rows.{row_p}
+use Rattle.owned.specs.Program.{E, S, Prog}
+use Rattle.owned.specs.Rows.{row_e, row_s, row_p}
 use Rattle.owned.specs.Decode.{Hit, node_of, node_shape, head_of, head_shape, read_ps}
 
 -- the place where what was read ends
@@ -29,6 +29,18 @@ NodeAt = FitsAt node_shape node_of
 
 abbrev pub HeadAt : List ℕ → ℕ → Option Statement → Type 0
 HeadAt = FitsAt head_shape head_of
+
+-- an expression, a statement stands at a place
+abbrev pub StandsE : List ℕ → ℕ → Type 0
+StandsE ws i = (e : E) × (rest : List ℕ) × (drop i ws ≡ row_e e ++ rest)
+
+abbrev pub StandsS : List ℕ → ℕ → Type 0
+StandsS ws i = (s : S) × (rest : List ℕ) × (drop i ws ≡ row_s s ++ rest)
+
+-- the words of a signature that begins at t are there: how many kinds and the kinds, how many marks and the marks, and
+-- the result
+abbrev pub SignatureIn : List ℕ → ℕ → Type 0
+SignatureIn ws t = (t < length ws) × (t + 1 + slice_index ws t < length ws) × (t + 1 + slice_index ws t + 1 + slice_index ws (t + 1 + slice_index ws t) < length ws)
 
 -- each procedure begins at its place
 abbrev pub Placed : List ℕ → List ℕ → Prog → Type 0

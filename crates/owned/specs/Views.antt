@@ -1,14 +1,17 @@
 -- A procedure as the code sees it in the rows, and what the functions of the rules say of the definitions.
-use Rattle.std.specs.Prelude.{◌≡◌, ℕ, ◌+◌, ◌<◌, ◌≤◌, Bool, true, false, not, ◌&&◌, ◌||◌, T, List, ◌++◌, length, drop, Some, None, Option, ◌==◌, slice_set}
+use Rattle.std.specs.Prelude.{◌≡◌, ℕ, ◌+◌, ◌<◌, ◌≤◌, Bool, true, false, not, ◌&&◌, ◌||◌, T, List, [], ◌∷◌, ◌++◌, length, drop, Some, None, Option, ◌==◌, slice_index, slice_set}
 use Rattle.std.specs.List.{slice_get}
 use Rattle.owned.specs.declared.procs.Procedure.{Procedure}
+use Rattle.owned.specs.declared.program.Program.{Program}
+use Rattle.owned.specs.declared.checker.Checker.{Checker}
 use Rattle.owned.specs.declared.varset.VarSet.{VarSet}
 use Rattle.owned.specs.declared.decode.Transfer.{Transfer}
 use Rattle.owned.specs.declared.decode.Transfer.TheVariants.{Box, Unbox, Look, Fill, Move}
 use Rattle.owned.specs.Program.{S, E, Arg, Sig, Proc, Prog, kind}
 use Rattle.owned.specs.Rows.{row_e, row_s, row_as, row_p, ok_ps}
-use Rattle.owned.specs.Kept.{Full, is_full, is_num, there, takes, gives, full_after_give, numbers, keeps, again, lent_away, hands, kept1}
-use Rattle.owned.specs.Ends.{Placed}
+use Rattle.owned.specs.Kept.{Full, is_full, is_num, there, takes, gives, full_after_give, numbers, keeps, kept1}
+use Rattle.owned.specs.Decode.{read_ps}
+use Rattle.owned.specs.Ends.{StandsE, StandsS, Placed}
 use Rattle.owned.specs.VarSets.{bits}
 
 -- the rows, where procedures begin, a procedure's signature and where its body begins
@@ -18,19 +21,18 @@ pub record Seen : Type 0 where
   pub sig : Sig
   pub body : ℕ
 
-abbrev pub seen : Procedure → Seen
-seen p = record { rows = p.rows.now; starts = p.starts.now; sig = record { kinds = p.kinds.now; args = p.args.now; result = p.result.0 }; body = p.body }
+abbrev pub sig_of : Procedure → Sig
+sig_of p = record { kinds = p.kinds.now; args = p.args.now; result = p.result.0 }
+
+abbrev pub seen_in : List ℕ → List ℕ → Procedure → Seen
+seen_in ws ts p = record { rows = ws; starts = ts; sig = sig_of p; body = p.body }
+
+abbrev pub seen : Checker → Seen
+seen c = seen_in c.program.rows.now c.program.starts.now c.procedure
 
 -- the full variables of the procedure, by a set
 abbrev pub full_of : Seen → VarSet → Full
 full_of m k = bits (length m.sig.kinds) k.0
-
--- the rows are procedures, and this one has few enough variables
-pub record Fit (m : Seen) : Type 0 where
-  pub g : Prog
-  pub placed : Placed m.rows m.starts g
-  pub kinds : length m.sig.kinds ≤ 32
-  pub rows : length m.rows ≤ 16384
 
 -- what is full after something that keeps the rules, or that it does not keep them
 abbrev pub After : Seen → Option Full → Option VarSet → Type 0
@@ -46,7 +48,7 @@ abbrev pub SaysE : Seen → ℕ → Option ℕ → Type 0
 SaysE m i o = (e : E) (rest : List ℕ) → drop i m.rows ≡ row_e e ++ rest → Numbered m i (numbers m.sig e) rest o
 
 abbrev pub ThereE : Seen → ℕ → Type 0
-ThereE m i = (e : E) × (rest : List ℕ) × (drop i m.rows ≡ row_e e ++ rest)
+ThereE m i = StandsE m.rows i
 
 -- what is full after the statement at a place, and where it ends
 abbrev pub KeptTo : Seen → ℕ → Option Full → List ℕ → Option (VarSet × ℕ) → Type 0
@@ -57,8 +59,11 @@ KeptTo m i c rest (Some p) = (c ≡ Some (full_of m p.0)) × (drop p.1 m.rows �
 abbrev pub SaysS : Seen → ℕ → VarSet → Option (VarSet × ℕ) → Type 0
 SaysS m i k o = (g : Prog) → Placed m.rows m.starts g → (s : S) (rest : List ℕ) → drop i m.rows ≡ row_s s ++ rest → KeptTo m i (keeps g m.sig s (full_of m k)) rest o
 
-abbrev pub ThereS : Seen → ℕ → Type 0
-ThereS m i = (s : S) × (rest : List ℕ) × (drop i m.rows ≡ row_s s ++ rest)
+-- the rows are procedures, and a statement stands at a place
+pub record ThereS (m : Seen) (i : ℕ) : Type 0 where
+  pub g : Prog
+  pub placed : Placed m.rows m.starts g
+  pub here : StandsS m.rows i
 
 -- the statements with a destination and a source: what each asks, and what is full afterwards
 abbrev pub allows : Transfer → Sig → Full → ℕ → ℕ → Bool
@@ -80,12 +85,10 @@ pub record Sees (m : Seen) (q : Proc) : Type 0 where
   pub sig : m.sig ≡ q.sig
   pub body : (rest : List ℕ) × (drop m.body m.rows ≡ row_s q.body ++ rest)
 
--- the procedure that begins at t is seen, to its end
-pub record SeenAt (ws ts : List ℕ) (t : ℕ) (m : Seen) : Type 0 where
-  pub rows : m.rows ≡ ws
-  pub starts : m.starts ≡ ts
-  pub later : t < m.body
-  pub sees : (q : Proc) (rest : List ℕ) → drop t ws ≡ row_p q rest → (m.sig ≡ q.sig) × (drop m.body ws ≡ row_s q.body ++ rest)
+-- the procedure that begins at t has this signature and a body that begins there
+pub record SeenAt (ws : List ℕ) (t : ℕ) (p : Sig) (body : ℕ) : Type 0 where
+  pub later : t < body
+  pub sees : (q : Proc) (rest : List ℕ) → drop t ws ≡ row_p q rest → (p ≡ q.sig) × (drop body ws ≡ row_s q.body ++ rest)
 
 -- the procedure with number f is seen
 pub record Found (ws ts : List ℕ) (f : ℕ) (m : Seen) : Type 0 where
@@ -103,25 +106,23 @@ pub record ThereArgs (m : Seen) (i n : ℕ) : Type 0 where
   pub here : ArgsAt m i n as₁ rest
   pub near : i ≤ length m.rows
 
-abbrev pub SaysAgain : Seen → ℕ → ℕ → ℕ → Bool → Type 0
-SaysAgain m x i n o = (as₁ : List Arg) (rest : List ℕ) → ArgsAt m i n as₁ rest → o ≡ again x as₁
+-- arguments by their words: a variable, then its mark
+abbrev pub args_of : List (List ℕ) → List Arg
+args_of [] = []
+args_of (w ∷ ws) = record { of = slice_index w 0; lent = slice_index w 1 } ∷ args_of ws
 
-abbrev pub SaysLent : Seen → ℕ → ℕ → ℕ → Bool → Type 0
-SaysLent m x i n o = (as₁ : List Arg) (rest : List ℕ) → ArgsAt m i n as₁ rest → o ≡ lent_away x as₁
-
--- a number may stand any number of times, a box variable once
-abbrev pub SaysAlone : Seen → ℕ → ℕ → ℕ → Bool → Type 0
-SaysAlone m x i n o = (as₁ : List Arg) (rest : List ℕ) → ArgsAt m i n as₁ rest → o ≡ (is_num m.sig x || not (again x as₁))
-
-abbrev pub SaysHere : Seen → ℕ → ℕ → ℕ → Bool → Type 0
-SaysHere m x i n o = (as₁ : List Arg) (rest : List ℕ) → ArgsAt m i n as₁ rest → o ≡ (is_num m.sig x || not (lent_away x as₁))
-
-abbrev pub SaysHands : Seen → Seen → ℕ → ℕ → VarSet → Option VarSet → Type 0
-SaysHands m q i n k o = (as₁ : List Arg) (rest : List ℕ) → ArgsAt m i n as₁ rest → After m (hands m.sig q.sig 0 as₁ (full_of m k)) o
+-- the words of the arguments that stand at a place
+abbrev pub ArgumentsAt : Seen → ℕ → ℕ → List (List ℕ) → Type 0
+ArgumentsAt m i n us = (as₁ : List Arg) (rest : List ℕ) → ArgsAt m i n as₁ rest → args_of us ≡ as₁
 
 -- whether a procedure keeps the rules, whatever its body is
 abbrev pub SaysKept : Seen → Bool → Type 0
 SaysKept m o = (g : Prog) → Placed m.rows m.starts g → (s : S) (rest : List ℕ) → drop m.body m.rows ≡ row_s s ++ rest → o ≡ kept1 g (record { sig = m.sig; body = s })
+
+-- what reading rows says of them
+abbrev pub ReadAs : List ℕ → Option Program → Type 0
+ReadAs ws None = read_ps 64 ws ≡ None
+ReadAs ws (Some p) = (p.rows.now ≡ ws) × (g : Prog) × Placed p.rows.now p.starts.now g × (read_ps 64 ws ≡ Some g)
 
 -- the rows are procedures within their limits
 pub record Fine (ws ts : List ℕ) : Type 0 where

@@ -1,6 +1,6 @@
-ghost use Rattle.std.specs.Prelude.{◌≡◌, ◌+◌, ◌≤◌, length, drop, slice_index};
+ghost use Rattle.std.specs.Prelude.{◌≡◌, ◌+◌, ◌≤◌, length, drop, slice_index, Some};
 ghost use Rattle.owned.specs.Decode.{node_by, node_shape, head_by, head_shape, many, read_a, read_e, read_s};
-ghost use Rattle.owned.specs.Ends.{Ended, NodeAt, HeadAt};
+ghost use Rattle.owned.specs.Ends.{Ended, NodeAt, HeadAt, StandsE, StandsS};
 
 use crate::names::Var;
 
@@ -135,7 +135,7 @@ impl Statement {
 pub(crate) fn word(rows: &[u32], at: usize) -> u32
     ensures { result ≡ slice_index rows.now at }
 {
-    if at < rows.len() { rows[at] } else { 0 }
+    rows.get(at).copied().unwrap_or(0)
 }
 
 // The expression that begins at a place.
@@ -167,6 +167,22 @@ pub fn statement_at(rows: &[u32], at: usize) -> Option<Statement>
     } else {
         None
     }
+}
+
+// The head of the expression that stands at a place.
+pub fn expression_head(rows: &[u32], at: usize) -> Expression
+    requires { (length rows.now ≤ 16384) × (StandsE rows.now at) }
+    ensures { NodeAt rows.now at (Some result) }
+{
+    expression_at(rows, at).unwrap()
+}
+
+// The head of the statement that stands at a place.
+pub fn statement_head(rows: &[u32], at: usize) -> Statement
+    requires { (length rows.now ≤ 16384) × (StandsS rows.now at) }
+    ensures { HeadAt rows.now at (Some result) }
+{
+    statement_at(rows, at).unwrap()
 }
 
 // Where n expressions end that stand one after the other from a place on, each at most so deep.

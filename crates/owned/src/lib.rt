@@ -4,15 +4,18 @@ ghost use Rattle.std.specs.Prelude.{◌≡◌, ◌+◌, ◌*◌, length, nat_le}
 ghost use Rattle.owned.specs.Says.{JudgedPost};
 
 pub mod cells;
+mod checker;
 pub mod decode;
 pub mod names;
 pub mod procs;
+mod passing;
+mod program;
 mod rules;
 pub mod varset;
 
 pub use procs::MAX_WORDS;
-use procs::procedures;
-use rules::keeps_rules;
+use program::Program;
+use std::fmt;
 
 // What is said of a program: it keeps the rules or not; the rows are none; or there are too few work words to tell.
 #[derive(Clone, Copy, Debug, PartialEq, Eq)]
@@ -21,6 +24,17 @@ pub enum Judged {
     Careless,
     NoProgram,
     Few,
+}
+
+impl fmt::Display for Judged {
+    fn fmt<W: fmt::Write>(&self, f: &mut fmt::Formatter<W>) -> fmt::Result {
+        f.write_str(match self {
+            Judged::Keeps => "keeps",
+            Judged::Careless => "careless",
+            Judged::NoProgram => "no program",
+            Judged::Few => "few",
+        })
+    }
 }
 
 // Whether there are enough work words: 8,192, and 4 for each word of the program.
@@ -40,10 +54,10 @@ pub fn judge(program: &[u32], work: &mut [u32]) -> Judged
     if program.len() > MAX_WORDS {
         return Judged::NoProgram;
     }
-    let Some(count) = procedures(program, work) else {
+    let Some(program) = Program::read(program, work) else {
         return Judged::NoProgram;
     };
-    if keeps_rules(program, &work[0..count]) {
+    if program.keeps_rules() {
         Judged::Keeps
     } else {
         Judged::Careless

@@ -1,10 +1,9 @@
 ghost use Rattle.std.specs.Prelude.{◌≡◌, ℕ, ◌+◌, ◌<◌, ◌≤◌, List, length, drop, slice_index};
 ghost use Rattle.owned.specs.Decode.{many, below1, read_sig, read_p};
-ghost use Rattle.owned.specs.Ends.{Ended, WordUpTo, Tabled, Placed};
+ghost use Rattle.owned.specs.Ends.{Ended, WordUpTo, Tabled, SignatureIn};
 ghost use Rattle.owned.specs.Kept.{there};
-ghost use Rattle.owned.specs.Program.{Proc, Prog, kind, is_lent};
-ghost use Rattle.owned.specs.Rows.{row_p};
-ghost use Rattle.owned.specs.Views.{seen, SeenAt, Found};
+ghost use Rattle.owned.specs.Program.{kind, is_lent};
+ghost use Rattle.owned.specs.Views.{sig_of, SeenAt};
 
 use crate::decode::statements_end;
 use crate::names::{Kind, Var};
@@ -29,11 +28,7 @@ pub(crate) const LENT: u32 = 1;
 fn word_up_to(rows: &[u32], at: usize, most: u32) -> Option<u32>
     ensures { WordUpTo rows.now at most result }
 {
-    if at < rows.len() && rows[at] <= most {
-        Some(rows[at])
-    } else {
-        None
-    }
+    rows.get(at).copied().filter(|word| *word <= most)
 }
 
 // Where n words end that are at most `most`.
@@ -92,11 +87,9 @@ pub(crate) fn procedures(rows: &[u32], starts: &mut [u32]) -> Option<usize>
     Some(n)
 }
 
-// A procedure in the rows, among the others.
-#[derive(Drop)]
+// A procedure in the rows: its signature, and where its body begins.
+#[derive(Clone, Copy)]
 pub struct Procedure<'a> {
-    pub rows: &'a [u32],
-    pub starts: &'a [u32],
     pub kinds: &'a [u32],
     pub args: &'a [u32],
     pub result: Var,
@@ -104,24 +97,14 @@ pub struct Procedure<'a> {
 }
 
 impl<'a> Procedure<'a> {
-    // The procedure with a number, by where procedures begin.
-    pub(crate) fn find(rows: &'a [u32], starts: &'a [u32], f: usize) -> Procedure<'a>
-        requires { (f < length starts.now) × ((length rows.now ≤ 16384) × (((g : Prog) × Placed rows.now starts.now g))) }
-        ensures { Found rows.now starts.now f (seen result) }
-    {
-        Procedure::at(rows, starts, starts[f] as usize)
-    }
-
     // The procedure that begins at a place.
-    pub fn at(rows: &'a [u32], starts: &'a [u32], at: usize) -> Procedure<'a>
-        requires { (length rows.now ≤ 16384) × ((at < length rows.now) × (((p : Proc) × (rest : List ℕ) × (drop at rows.now ≡ row_p p rest)))) }
-        ensures { SeenAt rows.now starts.now at (seen result) }
+    pub fn at(rows: &'a [u32], at: usize) -> Procedure<'a>
+        requires { SignatureIn rows.now at }
+        ensures { SeenAt rows.now at (sig_of result) result.body }
     {
         let middle = at + 1 + rows[at] as usize;
         let last = middle + 1 + rows[middle] as usize;
         Procedure {
-            rows,
-            starts,
             kinds: &rows[at + 1..middle],
             args: &rows[middle + 1..last],
             result: Var(rows[last]),
@@ -131,32 +114,27 @@ impl<'a> Procedure<'a> {
 
     // Whether a variable is there.
     pub(crate) fn has(&self, x: Var) -> bool
-        ensures { result ≡ there (seen self.now).sig x.0 }
+        ensures { result ≡ there (sig_of self.now) x.0 }
     {
         (x.0 as usize) < self.kinds.len()
     }
 
     // A variable's kind; of one that is not there, 0.
     pub fn kind(&self, x: Var) -> Kind
-        ensures { result.0 ≡ kind (seen self.now).sig x.0 }
+        ensures { result.0 ≡ kind (sig_of self.now) x.0 }
     {
-        if self.has(x) {
-            Kind(self.kinds[x.0 as usize])
-        } else {
-            Kind(0)
-        }
+        Kind(self.kinds.get(x.0 as usize).copied().unwrap_or(0))
     }
 
     // The mark of an argument; of another variable, 0.
     pub(crate) fn mark(&self, x: Var) -> u32
-        ensures { result ≡ slice_index (seen self.now).sig.args x.0 }
+        ensures { result ≡ slice_index (sig_of self.now).args x.0 }
     {
-        let i = x.0 as usize;
-        if i < self.args.len() { self.args[i] } else { 0 }
+        self.args.get(x.0 as usize).copied().unwrap_or(0)
     }
 
     pub fn is_lent(&self, x: Var) -> bool
-        ensures { result ≡ is_lent (seen self.now).sig x.0 }
+        ensures { result ≡ is_lent (sig_of self.now) x.0 }
     {
         self.mark(x) == LENT
     }

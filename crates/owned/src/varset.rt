@@ -1,5 +1,6 @@
-ghost use Rattle.std.specs.Prelude.{◌≡◌, ◌^◌, ◌<◌, ◌≤◌, true, bit_or, bit_xor};
+ghost use Rattle.std.specs.Prelude.{ℕ, ◌≡◌, ◌^◌, ◌<◌, ◌≤◌, true, bit_or, bit_xor};
 ghost use Rattle.owned.specs.VarSets.{bit_of, FirstDifference};
+ghost use Rattle.owned.specs.Decode.{variable};
 
 use crate::names::Var;
 
@@ -35,13 +36,28 @@ impl VarSet {
         requires { n ≤ 32 }
         ensures { FirstDifference self.0 other.0 n result }
     {
-        let mut x = 0;
-        while x < n {
+        let mut first = n;
+        for x in 0..n {
             if self.has(Var(x)) != other.has(Var(x)) {
+                first = x;
                 break;
             }
-            x += 1;
         }
-        x
+        first
+    }
+
+    // Those of the first n variables that are meant.
+    pub fn of_those<F: Fn(Var) -> bool>(n: u32, is_meant: F) -> VarSet
+        requires few { n ≤ 32 }
+        requires callable { F.IsAlwaysCallable is_meant }
+        ensures { (x : ℕ) → x < n → F.post is_meant (variable x) (bit_of result.0 x) }
+    {
+        let mut those = VarSet(0);
+        for x in 0..n {
+            if is_meant(Var(x)) {
+                those = those.with(Var(x));
+            }
+        }
+        those
     }
 }
