@@ -5,7 +5,8 @@ use Rattle.std.proofs.lemmas.List.{length-set, get_or-set_other}
 use Rattle.owned.specs.Program.{S}
 use Rattle.owned.specs.Rows.{row_e, row_s}
 use Rattle.linker.specs.Code.{Code, ExprOf}
-use Rattle.linker.specs.Links.{Room, Same, Agree, Within, Marked}
+use Rattle.linker.specs.declared.tables.Linker.{Linker}
+use Rattle.linker.specs.Links.{code, Room, Same, Agree, Within, Marked}
 use Rattle.linker.proofs.Positions.{agree_within, expr_frame}
 
 -- the tables with a word written
@@ -81,6 +82,10 @@ wrote_other c q v =
       above = λ k. record { rows = refl; follow = same_refl c.follow (q + 1) k; inner = same_refl c.inner (q + 1) k; other = same_above c.other q v k };
       procs = refl;
     }
+
+-- the tables have room while they are filled
+pub room_of : (l : Linker) → Room (code l)
+room_of l = record { rows = l.short; follow = l.follow_room; inner = l.inner_room; other = l.other_room }
 
 -- the tables stay as long
 pub room_stays : (c d : Code) (i j : ℕ) → Within c d i j → Room c → Room d

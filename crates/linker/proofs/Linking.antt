@@ -11,16 +11,18 @@ use Rattle.linker.specs.Code.{Code, AtE, ExprOf, entry, Here, Part, At}
 use Rattle.owned.specs.Decode.{Parts, make}
 use Rattle.owned.specs.Ends.{HeadAt}
 use Rattle.owned.proofs.Reading.{see_s}
-use Rattle.linker.specs.Links.{StandsS, Room, part_rows, Enters, Agree, Within, Marked, StandsMarked, LinkedTo}
+use Rattle.linker.specs.Links.{Room, part_rows, Enters, Agree, Within, Marked, StandsMarked, LinkedTo}
+use Rattle.owned.specs.Ends.{StandsS}
 use Rattle.linker.proofs.Positions.{agree_within, some_words, expr_frame, expr_of_frame, at_frame}
-use Rattle.linker.proofs.Changes.{follow_at, inner_at, other_at, agree_trans, within_refl, within_both, within_more, wrote_follow, wrote_inner, wrote_other, room_stays, marked_frame, marked_expr}
-use Rattle.linker.proofs.Stands.{inside, past}
+use Rattle.linker.proofs.Changes.{follow_at, inner_at, other_at, agree_trans, within_refl, within_both, within_more, wrote_follow, wrote_inner, wrote_other, marked_frame, marked_expr}
+use Rattle.owned.proofs.Reading.{stands_s_within}
+use Rattle.linker.proofs.Stands.{past}
 
 pub stands : (c : Code) (i : ℕ) → StandsMarked c i → StandsS c.rows i
 stands c i t = (t.0, t.1, t.2)
 
 pub inside_rows : (c : Code) (i : ℕ) → StandsMarked c i → i < length c.rows
-inside_rows c i t = inside c.rows i (stands c i t)
+inside_rows c i t = stands_s_within c.rows i (stands c i t)
 
 -- a statement without parts
 at_leaf : (h : Statement) → (h ≡ Then → ⊥) → (h ≡ If → ⊥) → (h ≡ While → ⊥) → (v : Parts h) (d : Code) (i r : ℕ) → Here d (make h v) i r → At d (make h v) i r
@@ -66,7 +68,6 @@ pub record Next (c d : Code) (i j : ℕ) : Type 0 where
   pub there : StandsMarked d j
   pub later : i < j
   pub rows : length d.rows ≡ length c.rows
-  pub room : Room c → Room d
 
 -- after words at the statement's own place, its two parts are linked
 module _ (c c1 : Code) (i first second : ℕ) (w : Within c c1 i (i + 1)) (s : S) (rest : List ℕ) (p : Pair c i s rest first second) where
@@ -77,7 +78,7 @@ module _ (c c1 : Code) (i first second : ℕ) (w : Within c c1 i (i + 1)) (s : S
   first_marked = marked_frame c c1 p.a first (agree_within c c1 (i + 1) _ first _ (omega (arith, p.later)) (omega arith) (w.above (first + length (row_s p.a)))) p.mark_a
 
   first_next : Next c c1 i first
-  first_next = record { there = (p.a, row_s p.b ++ rest, first_here, first_marked); later = p.later; rows = ap length w.below.rows; room = room_stays c c1 i (i + 1) w }
+  first_next = record { there = (p.a, row_s p.b ++ rest, first_here, first_marked); later = p.later; rows = ap length w.below.rows }
 
   module _ (d : Code) (r : ℕ) (l : LinkedTo c1 d first r) where
     linked_a : At d p.a first r × Within c1 d first (first + length (row_s p.a))
@@ -98,7 +99,6 @@ module _ (c c1 : Code) (i first second : ℕ) (w : Within c c1 i (i + 1)) (s : S
           there = (p.b, rest, second_here, second_marked);
           later = omega (arith, p.later, p.middle);
           rows = ap length (linked_a.1.below.rows ∙ w.below.rows);
-          room = λ k. room_stays c1 d first (first + length (row_s p.a)) linked_a.1 (room_stays c c1 i (i + 1) w k);
         }
 
     module _ (g : Code) (k : ℕ) (n : LinkedTo d g second k) where
@@ -289,7 +289,7 @@ module _ (c : Code) (i : ℕ) (q : HeadAt c.rows i (Some While)) where
     pub loop_body : StandsMarked c i → Next c (loop_at c i r x) i (get_or c.inner i 0)
     loop_body t =
         let p = body t.0 t.1 t.2 t.3 in
-        record { there = (p.a, t.1, p.here, body_marked t.0 t.1 p); later = omega (arith, p.is); rows = refl; room = room_stays c (loop_at c i r x) i (i + 1) (wrote_loop c i r x) }
+        record { there = (p.a, t.1, p.here, body_marked t.0 t.1 p); later = omega (arith, p.is); rows = refl }
 
     pub link_loop : (d : Code) → Room c → i < length c.rows → Enters c.rows (get_or c.inner i 0) x → LinkedTo (loop_at c i r x) d (get_or c.inner i 0) i → LinkedTo c d i r
     link_loop d room within enx l s rest e m =

@@ -11,7 +11,8 @@ use Rattle.linker.specs.Code.{Code, ExprOf}
 use Rattle.owned.specs.Decode.{Parts, make}
 use Rattle.owned.specs.Ends.{HeadAt}
 use Rattle.owned.proofs.Reading.{see_s}
-use Rattle.linker.specs.Links.{StandsS, Room, part_rows, PartsFrom, PartsMarked, Agree, Within, Marked, MarkedTo}
+use Rattle.linker.specs.Links.{Room, part_rows, PartsFrom, PartsMarked, Agree, Within, Marked, MarkedTo}
+use Rattle.owned.specs.Ends.{StandsS}
 use Rattle.linker.proofs.Positions.{agree_within, expr_of_frame}
 use Rattle.linker.proofs.Changes.{inner_at, other_at, within_refl, within_both, wrote_inner, wrote_other, agree_trans, room_stays, marked_frame}
 use Rattle.linker.proofs.Stands.{past}
@@ -145,9 +146,6 @@ module _ (c : Code) (i first : ℕ) (h : Statement) (r : Ready c i first h) wher
           within_both c d (other_at d i second) i second i (i + 1) i second
           (within_both c (inner_at c i first) d i (i + 1) first second i second (wrote_inner c i first) m.within (omega arith) (omega (arith, r.parts.later)) (omega (arith, r.parts.later, m.later)) (omega arith))
           (wrote_other d i second) (omega arith) (omega arith) (omega arith) (omega (arith, r.parts.later, m.later))
-
-      pub room_two : Room (other_at d i second)
-      room_two = room_stays c (other_at d i second) i second changed r.room
 
       pub stands_two : StandsS d.rows second
       stands_two = let u = both r.there.0 r.there.1 r.there.2 in (u.1, r.there.1, ap (λ ws. drop second ws) m.within.below.rows ∙ second_at r.there.0 r.there.1 r.there.2)

@@ -14,9 +14,10 @@ use Rattle.linker.specs.Code.{Code, Second, AtE}
 use Rattle.owned.specs.Decode.{Tuple, binary, make_e, node_shape, head_shape}
 use Rattle.owned.specs.Ends.{NodeAt, HeadAt}
 use Rattle.owned.proofs.Reading.{see_e}
-use Rattle.linker.specs.Links.{StandsE, StandsS, Room, EndE, part_rows, Agree, Within, MarkedE, PartsMarked}
+use Rattle.linker.specs.Links.{Room, EndE, part_rows, Agree, Within, MarkedE, PartsMarked}
+use Rattle.owned.specs.Ends.{StandsE, StandsS}
 use Rattle.linker.proofs.Positions.{agree_within, expr_frame}
-use Rattle.linker.proofs.Changes.{inner_at, within_refl, within_both, within_more, wrote_inner, agree_trans, room_stays}
+use Rattle.linker.proofs.Changes.{inner_at, within_refl, within_both, within_more, wrote_inner, agree_trans}
 use Rattle.linker.proofs.Stands.{past, end_leaf, split, stands_right, end_binary, own_words, its_expression, parts_past_expression, no_expression, parts_past_arguments}
 
 -- a number or a variable
@@ -46,9 +47,6 @@ at_binary Less c a b q s x y = (s, x, y)
 module _ (c : Code) (room : Room c) (i : ℕ) (o : Operator) (q : NodeAt c.rows i (Some (Binary o))) (d : Code) (j : ℕ) (m : MarkedE c d (i + 1) j) where
   changed : Within c (inner_at d i j) i j
   changed = within_both c d (inner_at d i j) (i + 1) j i (i + 1) i j m.within (wrote_inner d i j) (omega arith) (omega arith) (omega arith) (omega (arith, m.later))
-
-  pub room_right : Room (inner_at d i j)
-  room_right = room_stays c (inner_at d i j) i j changed room
 
   pub there_right : StandsE c.rows i → StandsE d.rows j
   there_right t = subst (λ ws. StandsE ws j) (sym m.within.below.rows) (stands_right c.rows i o q j t m.ends).0

@@ -8,21 +8,21 @@ use Rattle.std.proofs.lemmas.Bool.{cases_lt}
 use Rattle.owned.specs.Program.{Sig, Proc, Prog}
 use Rattle.owned.specs.Rows.{row_s, row_p, row_ps, ok_ps, Rows}
 use Rattle.owned.specs.VarSets.{bits}
-use Rattle.owned.specs.Views.{Seen, SeenAt}
+use Rattle.owned.specs.Views.{SeenAt}
 use Rattle.linker.specs.Code.{Code, At, released}
 use Rattle.owned.proofs.Chains.{T_and}
 use Rattle.owned.proofs.Programs.{sig_off, ok_off}
 use Rattle.owned.proofs.Layouts.{word_at}
 use Rattle.owned.proofs.Whole.{ok_at}
 use Rattle.linker.specs.declared.Header.{Header}
-use Rattle.linker.specs.Links.{Same, Agree, Within, Enters, Marked, MarkedTo, LinkedTo, StandsP, HeaderOf, HeaderAt, Noted, ProcBefore, ProcedureTo, RoomAll, LinkedAll}
+use Rattle.linker.specs.Links.{Same, Agree, Within, Enters, Marked, MarkedTo, LinkedTo, StandsP, HeaderOf, HeaderAt, Noted, ProcBefore, ProcedureTo, LinkedAll}
 use Rattle.linker.proofs.Positions.{agree_within, at_frame}
 use Rattle.linker.proofs.Changes.{agree_trans}
 use Rattle.linker.proofs.Stands.{past}
 
 -- what was read of a procedure where it begins
-pub header_at : (ws ts : List ℕ) (i : ℕ) (m : Seen) (h : Header) → SeenAt ws ts i m → h.kinds ≡ i + 1 → h.many ≡ length m.sig.kinds → h.result.0 ≡ m.sig.result → bits (length m.sig.kinds) h.released.0 ≡ released m.sig 0 m.sig.kinds → h.body ≡ m.body → HeaderAt ws i h
-header_at ws ts i m h v e1 e2 e3 e4 e5 =
+pub header_at : (ws : List ℕ) (i : ℕ) (q : Sig) (body : ℕ) (h : Header) → SeenAt ws i q body → h.kinds ≡ i + 1 → h.many ≡ length q.kinds → h.result.0 ≡ q.result → bits (length q.kinds) h.released.0 ≡ released q 0 q.kinds → h.body ≡ body → HeaderAt ws i h
+header_at ws i q body h v e1 e2 e3 e4 e5 =
     record {
       later = omega (arith, v.later, e5);
       says = λ p rest e. (let w = v.sees p rest e in
@@ -126,12 +126,11 @@ pub record Done (c : Code) (g : Prog) (f i : ℕ) : Type 0 where
 -- and so for whatever program the rows are
 pub record Through (ws : List ℕ) (c : Code) (f i : ℕ) : Type 0 where
   pub rows : c.rows ≡ ws
-  pub room : RoomAll c
   pub near : i ≤ length ws
   pub done : (g : Prog) → Rows ws g → Done c g f i
 
-pub through_begin : (c : Code) → RoomAll c → Through c.rows c 0 0
-through_begin c r = record { rows = refl; room = r; near = omega arith; done = λ g h. record { left = sym h.rows; each = λ k p l e. absurd (omega arith) } }
+pub through_begin : (c : Code) → Through c.rows c 0 0
+through_begin c = record { rows = refl; near = omega arith; done = λ g h. record { left = sym h.rows; each = λ k p l e. absurd (omega arith) } }
 
 -- the procedure with number f, if there are so many
 at_number : (g : Prog) (f : ℕ) → (drop f g ≡ []) ⊎ ((p : Proc) × (slice_get g f ≡ Some p) × (drop f g ≡ p ∷ drop (f + 1) g) × (f < length g))
@@ -165,18 +164,8 @@ module _ (ws : List ℕ) (c : Code) (f i : ℕ) (h : Through ws c f i) where
   through_more d j l t =
       let a = t.agree in
       let n = ap length a.rows in
-      let r = h.room.tables in
       record {
         rows = a.rows ∙ h.rows;
-        room = record {
-          tables = record {
-            rows = omega (arith, n, r.rows);
-            follow = omega (arith, n, r.follow, a.follow.long);
-            inner = omega (arith, n, r.inner, a.inner.long);
-            other = omega (arith, n, r.other, a.other.long);
-          };
-          procs = omega (arith, t.long, h.room.procs);
-        };
         near = omega (arith, t.near, ap length h.rows);
         done = λ g q. (let u = next l g q in
             let w = t.says u.0 (row_ps (drop (f + 1) g)) u.2 in

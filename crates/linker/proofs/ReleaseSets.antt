@@ -1,12 +1,12 @@
--- The variables that are given back as a procedure ends, as bits: chosen one after the other, and in the end those that
--- the definition lists.
+-- The variables that are given back as a procedure ends, as bits: those that the definition lists.
+-- Each bit is compared with its place in the list.
 use Rattle.std.proofs.Common.{◌≡◌, ℕ, zero, suc, ◌+◌, ◌<◌, Bool, false, not, ◌&&◌, List, [], ◌∷◌, length, get_or, sym, refl, ap, ◌∙◌, arith}
 use Rattle.owned.specs.Program.{Sig}
 use Rattle.owned.specs.Runs.{stays}
 use Rattle.owned.specs.Kept.{is_num}
-use Rattle.owned.specs.VarSets.{bits}
+use Rattle.owned.specs.VarSets.{bit_of, bits}
 use Rattle.linker.specs.Code.{released}
-use Rattle.owned.proofs.Bits.{Chosen, chosen_all}
+use Rattle.owned.proofs.Bits.{bits_are}
 
 -- whether a variable is given back
 abbrev pub freed : Sig → ℕ → Bool
@@ -21,8 +21,8 @@ length_released : (p : Sig) (i : ℕ) (ks : List ℕ) → length (released p i k
 length_released p i [] = refl
 length_released p i (k ∷ ks) = ap suc (length_released p (i + 1) ks)
 
-pub released_all : (p : Sig) (i k : ℕ) → i ≡ length p.kinds → Chosen (length p.kinds) (λ x. freed p x) i k → bits (length p.kinds) k ≡ released p 0 p.kinds
-released_all p i k e c =
-    chosen_all (length p.kinds) (λ x. freed p x) i k e c (released p 0 p.kinds) (length_released p 0 p.kinds) (λ j l.
+pub released_all : (p : Sig) (k : ℕ) → ((x : ℕ) → x < length p.kinds → bit_of k x ≡ freed p x) → bits (length p.kinds) k ≡ released p 0 p.kinds
+released_all p k f =
+    bits_are (length p.kinds) k (released p 0 p.kinds) (length_released p 0 p.kinds) (λ j l.
     let z : 0 + j ≡ j = omega arith in
-    released_get p 0 p.kinds j l ∙ ap (λ q. freed p q) z)
+    f j l ∙ sym (released_get p 0 p.kinds j l ∙ ap (λ q. freed p q) z))

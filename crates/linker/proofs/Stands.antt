@@ -1,6 +1,6 @@
 -- What stands at a place of the rows: where it ends, where it is entered, where its parts begin.
 -- The head that is read there is that of every expression or statement that could be meant.
-use Rattle.std.proofs.Common.{[], None, ◌≡◌, ℕ, zero, suc, ◌+◌, ◌*◌, ◌<◌, ◌≤◌, List, ◌++◌, length, drop, Some, sym, refl, ap, ◌∙◌, subst, append_assoc, arith, length-append, length-drop}
+use Rattle.std.proofs.Common.{◌≡◌, ℕ, zero, suc, ◌+◌, ◌*◌, ◌<◌, ◌≤◌, List, ◌++◌, length, drop, Some, sym, refl, ap, ◌∙◌, subst, append_assoc, arith, length-append, length-drop}
 use lib.Seq.{drop-append_seam}
 use Rattle.std.proofs.lemmas.List.{drop-drop}
 use Rattle.owned.specs.declared.decode.Operator.{Operator}
@@ -15,28 +15,11 @@ use Rattle.owned.specs.Program.{E, S, Arg}
 use Rattle.owned.specs.Rows.{row_e, row_s}
 use Rattle.linker.specs.Code.{Code, AtE, ExprOf, entry}
 use Rattle.owned.specs.Decode.{Tuple, binary, head_shape, Parts, make}
-use Rattle.owned.specs.Ends.{NodeAt, HeadAt}
+use Rattle.owned.specs.Ends.{NodeAt, HeadAt, StandsE, StandsS}
 use Rattle.owned.proofs.Chains.{row_t}
 use Rattle.owned.proofs.Statements.{row_parts, row_a}
-use Rattle.owned.specs.Views.{Seen}
-use Rattle.owned.proofs.Reading.{see_e, no_node_there, in_rows_e, see_s, no_head_there, in_rows}
-use Rattle.linker.specs.Links.{StandsE, StandsS, EndE, Enters, part_rows, PartsFrom}
-
--- the rows alone, as the rules see a procedure in them
-abbrev bare : List ℕ → Seen
-bare ws = record { rows = ws; starts = []; sig = record { kinds = []; args = []; result = 0 }; body = 0 }
-
-pub no_node : (ws : List ℕ) (i : ℕ) → NodeAt ws i None → StandsE ws i → ⊥
-no_node ws i k t = no_node_there (bare ws) i k t
-
-pub inside_e : (ws : List ℕ) (i : ℕ) → StandsE ws i → i < length ws
-inside_e ws i t = in_rows_e (bare ws) i t
-
-pub no_head : (ws : List ℕ) (i : ℕ) → HeadAt ws i None → StandsS ws i → ⊥
-no_head ws i k t = no_head_there (bare ws) i k t
-
-pub inside : (ws : List ℕ) (i : ℕ) → StandsS ws i → i < length ws
-inside ws i t = in_rows (bare ws) i t
+use Rattle.owned.proofs.Reading.{see_e, see_s}
+use Rattle.linker.specs.Links.{EndE, Enters, part_rows, PartsFrom}
 
 -- past the words at a place
 pub past : (ws : List ℕ) (i : ℕ) (w rest : List ℕ) → drop i ws ≡ w ++ rest → drop (i + length w) ws ≡ rest

@@ -5,14 +5,7 @@ use Rattle.owned.specs.Rows.{row_e, row_s, row_p, Rows}
 use Rattle.owned.specs.VarSets.{bits}
 use Rattle.linker.specs.Code.{Code, entry, AtE, ExprOf, At, ProcAt, Linked, released}
 use Rattle.linker.specs.declared.Header.{Header}
-use Rattle.linker.specs.declared.Linker.{Linker}
-
--- an expression, a statement stands at a place
-abbrev pub StandsE : List ℕ → ℕ → Type 0
-StandsE ws i = (e : E) × (rest : List ℕ) × (drop i ws ≡ row_e e ++ rest)
-
-abbrev pub StandsS : List ℕ → ℕ → Type 0
-StandsS ws i = (s : S) × (rest : List ℕ) × (drop i ws ≡ row_s s ++ rest)
+use Rattle.linker.specs.declared.tables.Linker.{Linker}
 
 abbrev pub code : Linker → Code
 code l = record { rows = l.rows.now; follow = l.follow.now; inner = l.inner.now; other = l.other.now; procs = l.procs.now }

@@ -5,20 +5,20 @@ ghost use Rattle.owned.specs.Program.{Prog};
 ghost use Rattle.owned.specs.Runs.{stays};
 ghost use Rattle.owned.specs.Rows.{Rows};
 ghost use Rattle.owned.specs.Kept.{is_num};
-ghost use Rattle.owned.specs.Ends.{HeadAt};
-ghost use Rattle.owned.specs.Views.{seen};
+ghost use Rattle.owned.specs.Ends.{HeadAt, StandsE, StandsS};
+ghost use Rattle.owned.specs.Views.{sig_of};
 ghost use Rattle.owned.specs.VarSets.{bits};
 ghost use Rattle.linker.specs.Code.{released as released_of};
-ghost use Rattle.linker.specs.Links.{StandsE, StandsS, code, Held, Room, Enters, MarkedE, PartsMarked, MarkedTo, StandsMarked, LinkedTo, HeaderAt, Noted, StandsP, ProcedureTo, RoomAll, LinkedAll};
+ghost use Rattle.linker.specs.Links.{code, Held, Room, Enters, MarkedE, PartsMarked, MarkedTo, StandsMarked, LinkedTo, HeaderAt, Noted, StandsP, ProcedureTo, RoomAll, LinkedAll};
 
-use owned::decode::{Expression, Statement};
-
-mod heads;
-
-use heads::{expression_head, statement_head};
-use owned::names::Var;
+use owned::decode::{Expression, Statement, expression_head, statement_head};
+use owned::names::{Kind, Var};
 use owned::procs::Procedure;
 use owned::varset::VarSet;
+
+mod tables;
+
+use tables::Linker;
 
 // How many words the table of procedures has for each. The first says where its kinds stand, the others how many
 // variables it has, its result, where its body is entered, and what is given back as it ends.
@@ -47,33 +47,17 @@ fn entry(rows: &[u32], at: usize) -> usize
 
 // Whether a variable is given back as its procedure ends: a box that is neither the result nor lent.
 fn is_released(found: &Procedure, x: Var) -> bool
-    ensures { result ≡ (not (is_num (seen found.now).sig x.0) && not (stays (seen found.now).sig x.0)) }
+    ensures { result ≡ (not (is_num (sig_of found.now) x.0) && not (stays (sig_of found.now) x.0)) }
 {
-    found.kind(x).0 != 0 && x.0 != found.result.0 && !found.is_lent(x)
-}
-
-// A set with a variable if that is given back.
-fn with_released(found: &Procedure, given: VarSet, x: Var) -> VarSet
-    requires { x.0 < 32 }
-    ensures { (n : ℕ) → bits n result.0 ≡ (if not (is_num (seen found.now).sig x.0) && not (stays (seen found.now).sig x.0) then slice_set (bits n given.0) x.0 true else bits n given.0) }
-{
-    if is_released(found, x) {
-        given.with(x)
-    } else {
-        given
-    }
+    found.kind(x) != Kind(0) && x != found.result && !found.is_lent(x)
 }
 
 // The variables that are given back as a procedure ends.
 fn released(found: &Procedure) -> VarSet
-    requires { length (seen found.now).sig.kinds ≤ 32 }
-    ensures { bits (length (seen found.now).sig.kinds) result.0 ≡ released_of (seen found.now).sig 0 (seen found.now).sig.kinds }
+    requires { length (sig_of found.now).kinds ≤ 32 }
+    ensures { bits (length (sig_of found.now).kinds) result.0 ≡ released_of (sig_of found.now) 0 (sig_of found.now).kinds }
 {
-    let mut given = VarSet(0);
-    for x in 0..found.kinds.len() as u32 {
-        given = with_released(found, given, Var(x));
-    }
-    given
+    VarSet::of_those(found.kinds.len() as u32, |x| is_released(found, x))
 }
 
 // What the table of procedures says of one, but for where its body is entered: where its kinds stand, how many variables
@@ -87,12 +71,12 @@ struct Header {
     body: usize,
 }
 
-// The header of the procedure that begins at a place. For this the places of the others are not looked at.
+// The header of the procedure that begins at a place.
 fn header_at(rows: &[u32], at: usize) -> Header
-    requires { (length rows.now ≤ 16384) × ((at < length rows.now) × (StandsP rows.now at)) }
+    requires { (length rows.now ≤ 16384) × (StandsP rows.now at) }
     ensures { HeaderAt rows.now at result }
 {
-    let found = Procedure::at(rows, &rows[0..0], at);
+    let found = Procedure::at(rows, at);
     Header {
         kinds: at as u32 + 1,
         many: found.kinds.len() as u32,
@@ -102,20 +86,10 @@ fn header_at(rows: &[u32], at: usize) -> Header
     }
 }
 
-// The tables of a program while they are filled.
-#[derive(Drop)]
-pub(crate) struct Linker<'a> {
-    rows: &'a [u32],
-    follow: &'a mut [u32],
-    inner: &'a mut [u32],
-    other: &'a mut [u32],
-    procs: &'a mut [u32],
-}
-
-impl<'a> Linker<'a> {
+impl Linker<'_> {
     // Writes where second operands begin, in the expression at a place and each in it. Gives where it ends.
     fn mark_expression(&mut self, at: usize) -> usize
-        requires { (Room (code self.old)) × (StandsE (code self.old).rows at) }
+        requires { StandsE (code self.old).rows at }
         ensures marks { MarkedE (code self.old) (code self.new) at result }
         ensures held { Held self.old self.new }
     {
@@ -132,7 +106,7 @@ impl<'a> Linker<'a> {
     // Marks the expression in the statement at a place. Gives where the statements in it begin, or where it ends if there
     // are none.
     fn mark_parts(&mut self, at: usize, head: Statement) -> usize
-        requires { (Room (code self.old)) × ((StandsS (code self.old).rows at) × (HeadAt (code self.old).rows at (Some head))) }
+        requires { (StandsS (code self.old).rows at) × (HeadAt (code self.old).rows at (Some head)) }
         ensures marks { PartsMarked (code self.old) (code self.new) at result }
         ensures held { Held self.old self.new }
     {
@@ -147,7 +121,7 @@ impl<'a> Linker<'a> {
 
     // Writes where the parts of the statement at a place begin, and of each statement in it. Gives where it ends.
     fn mark(&mut self, at: usize) -> usize
-        requires { (Room (code self.old)) × (StandsS (code self.old).rows at) }
+        requires { StandsS (code self.old).rows at }
         ensures marks { MarkedTo (code self.old) (code self.new) at result }
         ensures held { Held self.old self.new }
     {
@@ -170,7 +144,7 @@ impl<'a> Linker<'a> {
 
     // Links the statement at a place, whose parts are marked, to go on at `next`.
     fn link(&mut self, at: usize, next: usize)
-        requires { (Room (code self.old)) × ((StandsMarked (code self.old) at) × (next ≤ 16384)) }
+        requires { (StandsMarked (code self.old) at) × (next ≤ 16384) }
         ensures links { LinkedTo (code self.old) (code self.new) at next }
         ensures held { Held self.old self.new }
     {
@@ -201,7 +175,7 @@ impl<'a> Linker<'a> {
 
     // Writes the words of procedure f, whose body is entered at a place.
     fn note(&mut self, f: usize, header: Header, body: usize)
-        requires { (f < 64) × ((512 ≤ length (code self.old).procs) × (body ≤ 16384)) }
+        requires { (f < 64) × (body ≤ 16384) }
         ensures notes { Noted (code self.old) (code self.new) f header body }
         ensures held { Held self.old self.new }
     {
@@ -215,7 +189,7 @@ impl<'a> Linker<'a> {
 
     // Links procedure f, which begins at a place. Gives where it ends.
     fn procedure(&mut self, f: usize, at: usize) -> usize
-        requires { (f < 64) × ((RoomAll (code self.old)) × ((at < length (code self.old).rows) × (StandsP (code self.old).rows at))) }
+        requires { (f < 64) × (StandsP (code self.old).rows at) }
         ensures links { ProcedureTo (code self.old) (code self.new) f at result }
         ensures held { Held self.old self.new }
     {
@@ -229,7 +203,7 @@ impl<'a> Linker<'a> {
 
     // Links every procedure, one after the other.
     fn program(&mut self)
-        requires { (RoomAll (code self.old)) × (((g : Prog) × Rows (code self.old).rows g)) }
+        requires { (g : Prog) × Rows (code self.old).rows g }
         ensures links { LinkedAll (code self.new) }
         ensures rows { (code self.new).rows ≡ (code self.old).rows }
         ensures held { Held self.old self.new }

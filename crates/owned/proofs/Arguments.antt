@@ -1,6 +1,6 @@
 -- Arguments of a call: the words of each, and what they ask one after the other.
 -- From place j of them on the definition goes over the rest of the list, so each turn of the loop takes one off.
-use Rattle.std.proofs.Common.{◌≡◌, ℕ, suc, ◌+◌, ◌-◌, ◌*◌, ◌/◌, ◌<◌, ◌≤◌, Bool, true, false, cond, not, ◌&&◌, ◌||◌, eqb, List, [], ◌∷◌, ◌++◌, length, get_or, take, drop, Some, None, Option, sym, refl, ap, ◌∙◌, subst, arith}
+use Rattle.std.proofs.Common.{◌≡◌, ℕ, suc, ◌+◌, ◌-◌, ◌*◌, ◌/◌, ◌<◌, ◌≤◌, Bool, true, false, cond, not, ◌&&◌, ◌||◌, eqb, List, [], ◌∷◌, ◌++◌, length, get_or, take, drop, Some, None, Option, sym, refl, ap, ◌∙◌, arith}
 use Rattle.std.proofs.lemmas.Bool.{eq-eqb, ne_eqb}
 use Rattle.std.proofs.Math.Seq.{take-append_seam, drop-cons}
 use Rattle.std.proofs.lemmas.List.{drop_all}
@@ -10,7 +10,7 @@ use Rattle.owned.specs.declared.varset.VarSet.{VarSet}
 use Rattle.owned.specs.Program.{Arg, Sig}
 use Rattle.owned.specs.Rows.{row_as}
 use Rattle.owned.specs.Kept.{Full, is_num, both, when, again, lent_away, handed, hands, full_after_give}
-use Rattle.owned.specs.Views.{Seen, full_of, ArgsAt, args_of, ArgumentsAt, After}
+use Rattle.owned.specs.Views.{Seen, full_of, args_of, ArgumentsAt, After}
 use Rattle.owned.proofs.Layouts.{word_at}
 
 pub args_past : (ws : List ℕ) (i : ℕ) (as₁ : List Arg) (rest : List ℕ) → i ≤ length ws → drop i ws ≡ row_as as₁ ++ rest → (drop (i + 2 * length as₁) ws ≡ rest) × (i + 2 * length as₁ ≤ length ws)
@@ -43,9 +43,6 @@ arguments_there m i n us e as₁ rest h =
     ap args_of (e ∙ ap (λ ws. first_chunks 2 (length ws / 2) ws) w ∙ ap (λ k. first_chunks 2 k (row_as as₁)) d) ∙ cut as₁
 
 -- arguments handed over and lent: those left ask of what is full by now what all asked at first
-abbrev pub SameHands : Sig → Sig → Full → ℕ → Full → List Arg → List Arg → Type 0
-SameHands p q c j d as₁ bs = hands p q 0 as₁ c ≡ hands p q j bs d
-
 both_some : (c : Option Full) → both c (λ d. when true (Some d)) ≡ c
 both_some None = refl
 both_some (Some c) = refl
@@ -63,7 +60,6 @@ many_hands p q j (b ∷ bs) d f =
     by : (t : Bool) → hands p q (j + 1) bs (cond (eqb b.lent 1) d (full_after_give p d b.of)) ≡ None → when t (both (hands p q (j + 1) bs (cond (eqb b.lent 1) d (full_after_give p d b.of))) (λ e. when (is_num p b.of || not (again b.of bs)) (Some e))) ≡ None
     by true e = ap (λ c. both c (λ z. when (is_num p b.of || not (again b.of bs)) (Some z))) e
     by false e = refl
-
 
 -- looked through by their words
 pub any_among : (x : ℕ) (us : List (List ℕ)) → list_any (λ w. eqb x (get_or w 0 0)) us ≡ again x (args_of us)

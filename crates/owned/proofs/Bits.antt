@@ -1,11 +1,11 @@
 -- Words of bits as lists: setting, clearing and reading a bit, and words that differ in none.
 -- The lists are read from the lowest bit on, so each lemma goes by halving the word.
-use Rattle.std.proofs.Common.{◌≡◌, ℕ, zero, suc, ◌+◌, ◌*◌, ◌/◌, ◌%◌, ◌^◌, ◌<◌, ◌≤◌, max, Bool, true, false, cond, ◌&&◌, eqb, ltb, List, [], ◌∷◌, length, get_or, set, sym, refl, ap, ◌∙◌, inl, inr, one-mul, subst, below_more, arith}
+use Rattle.std.proofs.Common.{◌≡◌, ℕ, zero, suc, ◌+◌, ◌*◌, ◌/◌, ◌%◌, ◌^◌, ◌<◌, ◌≤◌, max, Bool, true, false, eqb, List, [], ◌∷◌, length, get_or, set, sym, refl, ap, ◌∙◌, inl, inr, one-mul, subst, below_more, arith}
 use Prim.Native.Nat.{differ}
 use lib.Bits.{bit_or, bit_xor, or_step, xor_step, or_zero_r, xor_zero_r, shifted_half, shifted_even}
 use Rattle.std.proofs.lemmas.Nat.{shr-shr}
 use Rattle.std.proofs.lemmas.List.{ext_get_or, get_or_past, set_past, set-get_or, get_or-set_same, get_or-set_other}
-use Rattle.std.proofs.lemmas.Bool.{eqb-true, eq-eqb, ne_eqb, and_parts, lt-ltb, le-ltb, cases_eq, cases_lt, both_ways}
+use Rattle.std.proofs.lemmas.Bool.{eqb-true, eq-eqb, ne_eqb, and_parts, cases_lt, both_ways}
 use Rattle.owned.specs.Kept.{Full, alike, alike1}
 use Rattle.owned.specs.VarSets.{bit_of, bits, FirstDifference}
 

@@ -1,11 +1,15 @@
 -- Where decoders end, as the code finds it: one after the other, n in a loop, and by a head and its shape.
 -- `Ended` ties a decoder's answer to a place in the rows; each lemma is one step of the code.
-use Rattle.std.proofs.Common.{◌≡◌, ℕ, zero, suc, ◌+◌, ◌-◌, ◌<◌, ◌≤◌, true, false, leb, List, length, get_or, drop, Some, None, Option, sym, refl, ap, ◌∙◌, subst, inl, inr, arith}
-use Rattle.std.proofs.lemmas.List.{length-drop, get_or-drop, drop-drop, at_drop_more, at_drop_all}
-use Rattle.std.proofs.lemmas.Bool.{cases_lt, le-leb, lt-leb, lt-ltb, le-ltb}
+use Rattle.std.proofs.Common.{◌≡◌, ℕ, zero, suc, ◌+◌, ◌-◌, ◌*◌, ◌/◌, ◌<◌, ◌≤◌, Bool, true, false, ◌&&◌, leb, ltb, List, length, get_or, take, drop, Some, None, Option, sym, refl, ap, ◌∙◌, subst, inl, inr, add-one, arith}
+use Rattle.std.proofs.lemmas.List.{length-drop, length-take-le, get_or-drop, drop-drop, at_drop_more, at_drop_all}
+use Rattle.std.proofs.lemmas.Bool.{cases_lt, and_parts, le-leb, lt-leb, lt-ltb, le-ltb, leb-true, leb-false, ltb-true, ltb-false}
+use Rattle.std.proofs.Math.Seq.{drop-cons}
+use Rattle.std.specs.List.{list_all, slice_range}
+use Rattle.std.specs.Simd.{first_chunks}
 use Rattle.owned.specs.declared.decode.Expression.{Expression}
 use Rattle.owned.specs.declared.decode.Statement.{Statement}
 use Rattle.owned.specs.declared.decode.Shape.{Shape}
+use Rattle.owned.specs.Program.{Arg}
 use Rattle.owned.specs.Decode.{Hit, chain, guard, Tuple, many, fits, word, below1, read_a, node_by, node_shape, node_of, make_e, read_e, head_by, head_shape, head_of, make, parts, read_s}
 use Rattle.owned.specs.Ends.{Ended, FitsAt, NodeAt, HeadAt}
 
@@ -91,6 +95,111 @@ arg_past ws i l =
 
 pub arg_big : (ws : List ℕ) (i : ℕ) → i + 1 < length ws → 2 ≤ get_or ws (i + 1) 0 → Ended ws (read_a (drop i ws)) None
 arg_big ws i l h = chain_some ws (word (drop i ws)) _ (i + 1) None (word_end ws i (omega arith)) (λ x. chain_none ws (below1 2 (drop (i + 1) ws)) _ (below_big 2 ws (i + 1) l h))
+
+-- what is cut out of the rows
+pub cut_out : (ws : List ℕ) (i n : ℕ) → slice_range ws i (i + n) ≡ take n (drop i ws)
+cut_out ws i n = let e : i + n - i ≡ n = omega arith in ap (λ k. take k (drop i ws)) e
+
+-- n things of k words each, of which the one at place i is there if t holds of it
+module _ (A : Type 0) (ws : List ℕ) (go : List ℕ → Hit A) (k : ℕ) (t : ℕ → Bool) where
+  -- the things from place i on
+  abbrev pub all_from : ℕ → ℕ → Bool
+  all_from i zero = true
+  all_from i (suc n) = t i && all_from (i + k) n
+
+  module _ (good : (i : ℕ) → i + k ≤ length ws → t i ≡ true → Ended ws (go (drop i ws)) (Some (i + k))) (bad : (i : ℕ) → i + k ≤ length ws → t i ≡ false → Ended ws (go (drop i ws)) None) where
+    one_more : (i n : ℕ) (o : Option ℕ) → Ended ws (go (drop i ws)) (Some (i + k)) → Ended ws (many go n (drop (i + k) ws)) o → Ended ws (many go (suc n) (drop i ws)) o
+    one_more i n o h r = chain_some ws (go (drop i ws)) _ (i + k) o h (λ a. made_end ws (many go n (drop (i + k) ws)) (λ as₁. (a, as₁)) o r)
+
+    -- by the first: it is not there, or one of the others is not
+    unlike_by : (i n : ℕ) → i + k ≤ length ws → (b : Bool) → t i ≡ b → (t i ≡ true → Ended ws (many go n (drop (i + k) ws)) None) → Ended ws (many go (suc n) (drop i ws)) None
+    unlike_by i n l true h r = one_more i n None (good i l h) (r h)
+    unlike_by i n l false h r = chain_none ws (go (drop i ws)) _ (bad i l h)
+
+    pub many_there : (i n : ℕ) → i + k * n ≤ length ws → all_from i n ≡ true → Ended ws (many go n (drop i ws)) (Some (i + k * n))
+    many_there i zero l e = let z : i + k * 0 ≡ i = omega arith in rw z (refl, omega arith)
+    many_there i (suc n) l e =
+        let p = and_parts (t i) (all_from (i + k) n) e in
+        let z : i + k * suc n ≡ i + k + k * n = omega arith in
+        subst (λ j. Ended ws (many go (suc n) (drop i ws)) (Some j)) (sym z) (one_more i n (Some (i + k + k * n)) (good i (omega arith) p.0) (many_there (i + k) n (omega arith) p.1))
+
+    pub many_unlike : (i n : ℕ) → i + k * n ≤ length ws → all_from i n ≡ false → Ended ws (many go n (drop i ws)) None
+    many_unlike i zero l e = cc
+    many_unlike i (suc n) l e = unlike_by i n (omega arith) (t i) refl (λ h. many_unlike (i + k) n (omega arith) (ap (λ b. b && all_from (i + k) n) (sym h) ∙ e))
+
+    pub many_past : ((i : ℕ) → length ws < i + k → Ended ws (go (drop i ws)) None) → (i n : ℕ) → i ≤ length ws → length ws < i + k * n → Ended ws (many go n (drop i ws)) None
+    many_past past i zero m l = absurd (omega arith)
+    many_past past i (suc n) m l =
+        elim (cases_lt (length ws) (i + k)) [
+          | inl h ↦ chain_none ws (go (drop i ws)) _ (past i h)
+          | inr h ↦ unlike_by i n h (t i) refl (λ e. many_past past (i + k) n h (omega arith))
+        ]
+
+-- words up to m
+module _ (ws : List ℕ) (m : ℕ) where
+  abbrev up_to : ℕ → Bool
+  up_to i = leb (get_or ws i 0) m
+
+  same_words : (i n : ℕ) → i + n ≤ length ws → list_all (λ w. leb w m) (take n (drop i ws)) ≡ all_from ℕ ws (below1 (m + 1)) 1 up_to i n
+  same_words i zero l = refl
+  same_words i (suc n) l = rw (drop-cons ws i 0 (omega arith), ← add-one i) (ap (λ b. up_to i && b) (same_words (i + 1) n (omega arith)))
+
+  up_to_end : (i : ℕ) → i + 1 ≤ length ws → up_to i ≡ true → Ended ws (below1 (m + 1) (drop i ws)) (Some (i + 1))
+  up_to_end i l e = let h : get_or ws i 0 ≤ m = leb-true (get_or ws i 0) m e in below_end (m + 1) ws i (omega arith) (omega arith)
+
+  up_to_big : (i : ℕ) → i + 1 ≤ length ws → up_to i ≡ false → Ended ws (below1 (m + 1) (drop i ws)) None
+  up_to_big i l e = let h : m < get_or ws i 0 = leb-false (get_or ws i 0) m e in below_big (m + 1) ws i (omega arith) (omega arith)
+
+  module _ (i n : ℕ) where
+    pub words_past : i ≤ length ws → length ws < i + n → Ended ws (many (below1 (m + 1)) n (drop i ws)) None
+    words_past h l = many_past ℕ ws (below1 (m + 1)) 1 up_to up_to_end up_to_big (λ j k. below_past (m + 1) ws j (omega arith)) i n h (omega arith)
+
+    module _ (l : i + n ≤ length ws) (us : List ℕ) (e : us ≡ slice_range ws i (i + n)) where
+      pub words_there : true ≡ list_all (λ w. leb w m) us → Ended ws (many (below1 (m + 1)) n (drop i ws)) (Some (i + n))
+      words_there h =
+          let z : i + 1 * n ≡ i + n = omega arith in
+          subst (λ j. Ended ws (many (below1 (m + 1)) n (drop i ws)) (Some j)) z
+          (many_there ℕ ws (below1 (m + 1)) 1 up_to up_to_end up_to_big i n (omega arith) (sym (h ∙ ap (λ vs. list_all (λ w. leb w m) vs) (e ∙ cut_out ws i n) ∙ same_words i n l)))
+
+      pub words_big : false ≡ list_all (λ w. leb w m) us → Ended ws (many (below1 (m + 1)) n (drop i ws)) None
+      words_big h = many_unlike ℕ ws (below1 (m + 1)) 1 up_to up_to_end up_to_big i n (omega arith) (sym (h ∙ ap (λ vs. list_all (λ w. leb w m) vs) (e ∙ cut_out ws i n) ∙ same_words i n l))
+
+-- arguments, by their marks
+module _ (ws : List ℕ) where
+  abbrev marked : ℕ → Bool
+  marked i = ltb (get_or ws (i + 1) 0) 2
+
+  same_marks : (i n : ℕ) → i + 2 * n ≤ length ws → list_all (λ w. ltb (get_or w 1 0) 2) (first_chunks 2 n (take (2 * n) (drop i ws))) ≡ all_from Arg ws read_a 2 marked i n
+  same_marks i zero l = refl
+  same_marks i (suc n) l =
+      let a = drop-cons ws i 0 (omega arith) in
+      let b = drop-cons ws (suc i) 0 (omega arith) in
+      let z : 2 * suc n ≡ suc (suc (2 * n)) = omega arith in
+      let y : suc (suc i) ≡ i + 2 = omega arith in
+      rw (z, a, b, y, ← add-one i) (ap (λ c. marked i && c) (same_marks (i + 2) n (omega arith)))
+
+  marked_end : (i : ℕ) → i + 2 ≤ length ws → marked i ≡ true → Ended ws (read_a (drop i ws)) (Some (i + 2))
+  marked_end i l e = arg_end ws i (omega arith) (ltb-true (get_or ws (i + 1) 0) 2 e)
+
+  marked_big : (i : ℕ) → i + 2 ≤ length ws → marked i ≡ false → Ended ws (read_a (drop i ws)) None
+  marked_big i l e = arg_big ws i (omega arith) (ltb-false (get_or ws (i + 1) 0) 2 e)
+
+  module _ (i n : ℕ) where
+    pub args_past : i ≤ length ws → length ws < i + 2 * n → Ended ws (many read_a n (drop i ws)) None
+    args_past h l = many_past Arg ws read_a 2 marked marked_end marked_big (λ j k. arg_past ws j (omega arith)) i n h l
+
+    module _ (l : i + 2 * n ≤ length ws) (us : List ℕ) (e : us ≡ slice_range ws i (i + 2 * n)) (vs : List (List ℕ)) (f : vs ≡ first_chunks 2 (length us / 2) us) where
+      cuts : vs ≡ first_chunks 2 n (take (2 * n) (drop i ws))
+      cuts =
+          let g : us ≡ take (2 * n) (drop i ws) = e ∙ cut_out ws i (2 * n) in
+          let h : length us / 2 ≡ n = omega (arith, ap (λ ks. length ks) g, length-take-le (2 * n) (drop i ws) (omega (arith, length-drop i ws))) in
+          f ∙ ap (λ k. first_chunks 2 k us) h ∙ ap (λ ks. first_chunks 2 n ks) g
+
+      pub args_there : true ≡ list_all (λ w. ltb (get_or w 1 0) 2) vs → Ended ws (many read_a n (drop i ws)) (Some (i + 2 * n))
+      args_there h = many_there Arg ws read_a 2 marked marked_end marked_big i n l (sym (h ∙ ap (λ ks. list_all (λ w. ltb (get_or w 1 0) 2) ks) cuts ∙ same_marks i n l))
+
+      pub args_big : false ≡ list_all (λ w. ltb (get_or w 1 0) 2) vs → Ended ws (many read_a n (drop i ws)) None
+      args_big h = many_unlike Arg ws read_a 2 marked marked_end marked_big i n l (sym (h ∙ ap (λ ks. list_all (λ w. ltb (get_or w 1 0) 2) ks) cuts ∙ same_marks i n l))
 
 -- the head at a place, by its words
 module _ {H : Type 0} (shape : H → Shape) (of : List ℕ → Hit H) (ws : List ℕ) (i : ℕ) (o : Option H) (e : of (drop i ws) ≡ fits shape (drop i ws) o) where

@@ -6,7 +6,7 @@ use Rattle.std.proofs.lemmas.List.{drop-drop}
 use Rattle.owned.specs.Program.{Proc, Prog, Sig}
 use Rattle.owned.specs.Rows.{row_s, row_p}
 use Rattle.owned.specs.Ends.{SignatureIn, Placed}
-use Rattle.owned.specs.Views.{Seen, SeenAt, Found}
+use Rattle.owned.specs.Views.{SeenAt, Found}
 
 -- the word at a place where the rest begins with it
 pub word_at : (i : ℕ) (ws : List ℕ) (x : ℕ) (us : List ℕ) → drop i ws ≡ x ∷ us → (i < length ws) × (get_or ws i 0 ≡ x) × (drop (i + 1) ws ≡ us)

@@ -1,13 +1,12 @@
 -- The public promises, from what the code found: the theorems that they carry, and what each answer says.
 -- An answer other than too few work words is one of three, each with its own reason.
-use Rattle.std.proofs.Common.{◌≡◌, ℕ, ◌<◌, ◌≤◌, true, false, T, leb, List, length, Some, None, sym, refl, ap, arith, leb→le}
+use Rattle.std.proofs.Common.{◌≡◌, ℕ, ◌<◌, ◌≤◌, true, false, leb, List, length, Some, None, sym, refl, ap, arith, leb→le}
 use Rattle.std.proofs.lemmas.Bool.{leb-true, leb-false}
 use Rattle.owned.specs.declared.Judged.{Judged}
 use Rattle.owned.specs.declared.Judged.TheVariants.{Keeps, Careless, NoProgram, Few}
 use Rattle.owned.specs.Program.{Prog}
 use Rattle.owned.specs.Kept.{kept}
 use Rattle.owned.specs.Decode.{read_ps}
-use Rattle.owned.specs.Rows.{ok_ps}
 use Rattle.owned.specs.Ends.{Placed}
 use Rattle.owned.specs.Views.{Fine}
 use Rattle.owned.specs.Says.{Parts, JudgedSays, JudgedPost, floor}

@@ -6,17 +6,10 @@ use Rattle.std.proofs.lemmas.Bool.{cases_lt, le-leb, lt-leb, and_from, and_left,
 use Rattle.owned.specs.Program.{Sig}
 use Rattle.owned.specs.Decode.{Hit, chain, guard, Tuple, many, list_t, word, below1, read_s, read_sig, read_p}
 use Rattle.owned.specs.Ends.{Ended, WordUpTo}
-use Rattle.owned.proofs.Ends.{chain_none, chain_some, made_end, below_end, below_past, below_big}
+use Rattle.owned.proofs.Ends.{chain_none, chain_some, made_end}
 
 -- words within a limit
 module _ (ws : List ℕ) (i m : ℕ) where
-  pub up_to_none : WordUpTo ws i m None → Ended ws (below1 (m + 1) (drop i ws)) None
-  up_to_none h =
-      elim (cases_lt i (length ws)) [ inl l ↦ (let b : m + 1 ≤ get_or ws i 0 = omega (arith, h l) in below_big (m + 1) ws i l b) | inr l ↦ below_past (m + 1) ws i l ]
-
-  pub up_to_some : (w : ℕ) → WordUpTo ws i m (Some w) → Ended ws (below1 (m + 1) (drop i ws)) (Some (i + 1))
-  up_to_some w h = below_end (m + 1) ws i h.0 (omega (arith, h.1, h.2))
-
   -- a word, then a test that it passes just where it is at most m
   module _ {A : Type 0} (test : ℕ → Bool) (k : ℕ → List ℕ → Hit A) where
     pub on_none : ((w : ℕ) → m < w → test w ≡ false) → WordUpTo ws i m None → Ended ws (chain (word (drop i ws)) (λ w us. guard (test w) (k w us))) None

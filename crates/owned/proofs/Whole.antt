@@ -7,7 +7,7 @@ use Rattle.std.proofs.lemmas.Bool.{le-leb, lt-leb}
 use Rattle.owned.specs.declared.varset.VarSet.{VarSet}
 use Rattle.owned.specs.Program.{S, Sig, Proc, Prog}
 use Rattle.owned.specs.Rows.{ok_p, ok_ps}
-use Rattle.owned.specs.Kept.{Full, is_full, is_num, there, keeps, begins, ends_well, kept1, kept_all, starts}
+use Rattle.owned.specs.Kept.{Full, is_full, is_num, there, keeps, begins, ends_well, kept1, kept_all}
 use Rattle.owned.specs.VarSets.{bit_of}
 use Rattle.owned.specs.Ends.{SignatureIn, Placed}
 use Rattle.owned.specs.Views.{Seen, full_of, ThereS, SaysS, Sees, Found, SaysKept, Fine}
@@ -113,15 +113,3 @@ module _ (ws ts : List ℕ) (f : ℕ) (m : Seen) (v : Found ws ts f m) where
 
 pub rest_done : (ws ts : List ℕ) (f : ℕ) → length ts ≤ f → Rest ws ts f → (g : Prog) → Placed ws ts g → true ≡ kept_all g g
 rest_done ws ts f l h g p = ap (λ x. kept_all g x) (sym (drop_all f g (omega (arith, placed_length ws ts g p)))) ∙ h g p
-
-pub starts_none : (ws ts : List ℕ) → length ts ≡ 0 → (g : Prog) → Placed ws ts g → false ≡ starts g
-starts_none ws [] l [] p = refl
-starts_none ws [] l (q ∷ qs) p = absurd p
-starts_none ws (t ∷ ts) l g p = absurd (omega arith)
-
-pub starts_first : (ws ts : List ℕ) (m : Seen) → Found ws ts 0 m → (g : Prog) → Placed ws ts g → starts g ≡ (eqb (length m.sig.args) 0 && is_num m.sig m.sig.result)
-starts_first ws ts m v g p = let u = v.sees g p in by g u.0 u.1 u.2
-  where
-    by : (h : Prog) (q : Proc) → slice_get h 0 ≡ Some q → Sees m q → starts h ≡ (eqb (length m.sig.args) 0 && is_num m.sig m.sig.result)
-    by [] q e s = let z : ◌≡◌ {A = ℕ} 0 1 = cc e in absurd (omega arith)
-    by (r ∷ rs) q e s = let d : r ≡ q = cc e in ap (λ z. starts (z ∷ rs)) (d ∙ same ws ts 0 m v q s)

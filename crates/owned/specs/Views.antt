@@ -1,5 +1,5 @@
 -- A procedure as the code sees it in the rows, and what the functions of the rules say of the definitions.
-use Rattle.std.specs.Prelude.{◌≡◌, ℕ, ◌+◌, ◌<◌, ◌≤◌, Bool, true, false, not, ◌&&◌, ◌||◌, T, List, [], ◌∷◌, ◌++◌, length, drop, Some, None, Option, ◌==◌, slice_index, slice_set}
+use Rattle.std.specs.Prelude.{◌≡◌, ℕ, ◌+◌, ◌<◌, ◌≤◌, Bool, true, false, not, ◌&&◌, T, List, [], ◌∷◌, ◌++◌, length, drop, Some, None, Option, ◌==◌, slice_index, slice_set}
 use Rattle.std.specs.List.{slice_get}
 use Rattle.owned.specs.declared.procs.Procedure.{Procedure}
 use Rattle.owned.specs.declared.program.Program.{Program}

@@ -1,4 +1,5 @@
-ghost use Rattle.std.specs.Prelude.{◌≡◌, ◌+◌, ◌≤◌, length, drop, slice_index, Some};
+ghost use Rattle.std.specs.Prelude.{◌≡◌, ◌+◌, ◌≤◌, length, drop, nat_lt, slice_index, Some};
+ghost use Rattle.std.specs.List.{list_all};
 ghost use Rattle.owned.specs.Decode.{node_by, node_shape, head_by, head_shape, many, read_a, read_e, read_s};
 ghost use Rattle.owned.specs.Ends.{Ended, NodeAt, HeadAt, StandsE, StandsS};
 
@@ -201,16 +202,11 @@ fn expressions_end(rows: &[u32], at: usize, n: u32, depth: u32) -> Option<usize>
     Some(end)
 }
 
-// Where an argument of a call ends: a variable, then 0 or 1.
-fn argument_end(rows: &[u32], at: usize) -> Option<usize>
-    requires { (length rows.now ≤ 16384) × (at ≤ length rows.now) }
-    ensures { Ended rows.now (read_a (drop at rows.now)) result }
+// Whether arguments of a call have marks: each is a variable, then 0 or 1.
+fn are_marked(arguments: &[[u32; 2]]) -> bool
+    ensures { result ≡ list_all (λ w. nat_lt (slice_index w 1) 2) arguments.now }
 {
-    if at + 1 < rows.len() && rows[at + 1] < 2 {
-        Some(at + 2)
-    } else {
-        None
-    }
+    arguments.iter().all(|[_, mark]| *mark < 2)
 }
 
 // Where n arguments of a call end.
@@ -218,11 +214,13 @@ fn arguments_end(rows: &[u32], at: usize, n: u32) -> Option<usize>
     requires { (length rows.now ≤ 16384) × (at ≤ length rows.now) }
     ensures { Ended rows.now (many read_a n (drop at rows.now)) result }
 {
-    let mut end = at;
-    for _i in 0..n {
-        end = argument_end(rows, end)?;
+    let end = at + 2 * n as usize;
+    let words = rows.get(at..end)?;
+    if are_marked(words.as_chunks::<2>().0) {
+        Some(end)
+    } else {
+        None
     }
-    Some(end)
 }
 
 // Where n statements end that stand one after the other from a place on, each at most so deep.

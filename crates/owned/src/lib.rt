@@ -7,8 +7,8 @@ pub mod cells;
 mod checker;
 pub mod decode;
 pub mod names;
-pub mod procs;
 mod passing;
+pub mod procs;
 mod program;
 mod rules;
 pub mod varset;
@@ -29,10 +29,10 @@ pub enum Judged {
 impl fmt::Display for Judged {
     fn fmt<W: fmt::Write>(&self, f: &mut fmt::Formatter<W>) -> fmt::Result {
         f.write_str(match self {
-            Judged::Keeps => "keeps",
-            Judged::Careless => "careless",
-            Judged::NoProgram => "no program",
-            Judged::Few => "few",
+            Self::Keeps => "keeps",
+            Self::Careless => "careless",
+            Self::NoProgram => "no program",
+            Self::Few => "few",
         })
     }
 }

@@ -14,10 +14,7 @@ use crate::varset::VarSet;
 fn stands_among(x: Var, arguments: &[[u32; 2]], from: usize) -> bool
     ensures { result ≡ list_any (λ w. x.0 == (slice_index w 0)) (drop from arguments.now) }
 {
-    arguments
-        .iter()
-        .skip(from)
-        .any(|[of, _]| x.0 == *of)
+    arguments.iter().skip(from).any(|[of, _]| x.0 == *of)
 }
 
 // Whether a variable is lent by one of the arguments.

@@ -1,4 +1,5 @@
-ghost use Rattle.std.specs.Prelude.{◌≡◌, ℕ, ◌+◌, ◌<◌, ◌≤◌, List, length, drop, slice_index};
+ghost use Rattle.std.specs.Prelude.{◌≡◌, ℕ, ◌+◌, ◌<◌, ◌≤◌, List, length, drop, nat_le, slice_index};
+ghost use Rattle.std.specs.List.{list_all};
 ghost use Rattle.owned.specs.Decode.{many, below1, read_sig, read_p};
 ghost use Rattle.owned.specs.Ends.{Ended, WordUpTo, Tabled, SignatureIn};
 ghost use Rattle.owned.specs.Kept.{there};
@@ -31,17 +32,25 @@ fn word_up_to(rows: &[u32], at: usize, most: u32) -> Option<u32>
     rows.get(at).copied().filter(|word| *word <= most)
 }
 
+// Whether words are at most `most`.
+fn are_up_to(words: &[u32], most: u32) -> bool
+    ensures { result ≡ list_all (λ w. nat_le w most) words.now }
+{
+    words.iter().all(|word| *word <= most)
+}
+
 // Where n words end that are at most `most`.
 fn words_end(rows: &[u32], at: usize, n: u32, most: u32) -> Option<usize>
     requires { (length rows.now ≤ 16384) × (at ≤ length rows.now) }
     ensures { Ended rows.now (many (below1 (most + 1)) n (drop at rows.now)) result }
 {
-    let mut end = at;
-    for _i in 0..n {
-        word_up_to(rows, end, most)?;
-        end += 1;
+    let end = at + n as usize;
+    let words = rows.get(at..end)?;
+    if are_up_to(words, most) {
+        Some(end)
+    } else {
+        None
     }
-    Some(end)
 }
 
 // Where the signature of a procedure ends that begins at a place.

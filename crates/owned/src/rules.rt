@@ -28,13 +28,21 @@ impl Checker<'_> {
     pub(crate) fn is_full(&self, full: VarSet, x: Var) -> bool
         ensures { result ≡ is_full (full_of (seen self.now) full) x.0 }
     {
-        if self.procedure.has(x) { full.has(x) } else { false }
+        if self.procedure.has(x) {
+            full.has(x)
+        } else {
+            false
+        }
     }
 
     pub(crate) fn filled(&self, full: VarSet, x: Var) -> VarSet
         ensures { full_of (seen self.now) result ≡ slice_set (full_of (seen self.now) full) x.0 true }
     {
-        if self.procedure.has(x) { full.with(x) } else { full }
+        if self.procedure.has(x) {
+            full.with(x)
+        } else {
+            full
+        }
     }
 
     pub(crate) fn emptied(&self, full: VarSet, x: Var) -> VarSet
@@ -51,7 +59,8 @@ impl Checker<'_> {
     pub(crate) fn gives(&self, full: VarSet, x: Var) -> bool
         ensures { result ≡ gives (seen self.now).sig (full_of (seen self.now) full) x.0 }
     {
-        self.procedure.has(x) && (self.is_number(x) || (self.is_full(full, x) && !self.procedure.is_lent(x)))
+        self.procedure.has(x)
+            && (self.is_number(x) || (self.is_full(full, x) && !self.procedure.is_lent(x)))
     }
 
     // Whether a variable can take a value.
@@ -78,10 +87,7 @@ impl Checker<'_> {
     {
         match how {
             Transfer::Box => self.takes(x) && self.gives(full, y) && self.boxes(x, y) && x != y,
-            Transfer::Unbox => self.takes(x)
-                && self.gives(full, y)
-                && self.boxes(y, x)
-                && x != y,
+            Transfer::Unbox => self.takes(x) && self.gives(full, y) && self.boxes(y, x) && x != y,
             Transfer::Look => self.takes(x)
                 && self.is_number(x)
                 && self.procedure.kind(y).0 == 1

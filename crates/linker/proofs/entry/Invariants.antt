@@ -1,5 +1,6 @@
 use Rattle.std.proofs.Common.{ℕ, ◌-◌, length}
-use Rattle.linker.specs.Links.{StandsS, Enters}
+use Rattle.linker.specs.Links.{Enters}
+use Rattle.owned.specs.Ends.{StandsS}
 use Rattle.linker.proofs.entry.Given as goal
 
 -- what is left is entered where the whole is

@@ -1,4 +1,4 @@
-use Rattle.std.proofs.Common.{length, subst, arith}
+use Rattle.std.proofs.Common.{subst, arith}
 use Rattle.owned.specs.Ends.{NodeAt}
 use Rattle.owned.proofs.Reading.{stands_e_within, there_e}
 use Rattle.owned.proofs.decode.expression_head.Goals as goal

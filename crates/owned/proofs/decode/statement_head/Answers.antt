@@ -1,4 +1,4 @@
-use Rattle.std.proofs.Common.{length, subst, arith}
+use Rattle.std.proofs.Common.{subst, arith}
 use Rattle.owned.specs.Ends.{HeadAt}
 use Rattle.owned.proofs.Reading.{stands_s_within, there_s}
 use Rattle.owned.proofs.decode.statement_head.Goals as goal

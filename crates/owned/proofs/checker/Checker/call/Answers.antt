@@ -32,7 +32,7 @@ pub returns : goal.returns
 returns c =
     elim c.else-not-is_number.branch [
       | else-not-is_number-via-then-not-is_number+else-is_lent_by w ↦
-        calls_box (seen c.args.self.now) c.args.at c.args.x c.args.f c.args.n c.args.full c.requires.1 c.if-not-takes.ensures _ c.procedure-callee.ensures _ _ c.kind.ensures c.kind-2.ensures c.if-ne.ensures c.arguments-arguments.result.now c.arguments-arguments.ensures _ c.in_ok-after.ensures _ c.filled.ensures w.if-not-is_number.ensures w.if-is_lent_by.ensures
+          calls_box (seen c.args.self.now) c.args.at c.args.x c.args.f c.args.n c.args.full c.requires.1 c.if-not-takes.ensures _ c.procedure-callee.ensures _ _ c.kind.ensures c.kind-2.ensures c.if-ne.ensures c.arguments-arguments.result.now c.arguments-arguments.ensures _ c.in_ok-after.ensures _ c.filled.ensures w.if-not-is_number.ensures w.if-is_lent_by.ensures
       | else-not-is_number-via-else-not-is_number w ↦
-        calls_number (seen c.args.self.now) c.args.at c.args.x c.args.f c.args.n c.args.full c.requires.1 c.if-not-takes.ensures _ c.procedure-callee.ensures _ _ c.kind.ensures c.kind-2.ensures c.if-ne.ensures c.arguments-arguments.result.now c.arguments-arguments.ensures _ c.in_ok-after.ensures _ c.filled.ensures w.if-not-is_number.ensures
+          calls_number (seen c.args.self.now) c.args.at c.args.x c.args.f c.args.n c.args.full c.requires.1 c.if-not-takes.ensures _ c.procedure-callee.ensures _ _ c.kind.ensures c.kind-2.ensures c.if-ne.ensures c.arguments-arguments.result.now c.arguments-arguments.ensures _ c.in_ok-after.ensures _ c.filled.ensures w.if-not-is_number.ensures
     ]

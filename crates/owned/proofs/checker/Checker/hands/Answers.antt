@@ -25,11 +25,11 @@ pub loop-i-preserved : goal.loop-i-preserved
 loop-i-preserved c =
     elim c.else-not-is_number.branch [
       | else-not-is_number-via-then-not-is_number+else-stands_among w ↦
-        hands_box (seen c.args.self.now) (sig_of c.args.callee.now) c.args.arguments.now c.args.full c.loop-i.i c.loop-i.left c.loop-i.invariant c.loop-i-test.true _ c.if-not-hands_over.ensures
-        c.after_argument-left.result c.after_argument-left.ensures w.if-not-is_number.ensures w.if-stands_among.ensures
+          hands_box (seen c.args.self.now) (sig_of c.args.callee.now) c.args.arguments.now c.args.full c.loop-i.i c.loop-i.left c.loop-i.invariant c.loop-i-test.true _ c.if-not-hands_over.ensures
+          c.after_argument-left.result c.after_argument-left.ensures w.if-not-is_number.ensures w.if-stands_among.ensures
       | else-not-is_number-via-else-not-is_number w ↦
-        hands_number (seen c.args.self.now) (sig_of c.args.callee.now) c.args.arguments.now c.args.full c.loop-i.i c.loop-i.left c.loop-i.invariant c.loop-i-test.true _ c.if-not-hands_over.ensures
-        c.after_argument-left.result c.after_argument-left.ensures w.if-not-is_number.ensures
+          hands_number (seen c.args.self.now) (sig_of c.args.callee.now) c.args.arguments.now c.args.full c.loop-i.i c.loop-i.left c.loop-i.invariant c.loop-i-test.true _ c.if-not-hands_over.ensures
+          c.after_argument-left.result c.after_argument-left.ensures w.if-not-is_number.ensures
     ]
 
 pub returns : goal.returns

@@ -1,4 +1,4 @@
-use Rattle.owned.specs.Views.{seen, sig_of, full_of}
+use Rattle.owned.specs.Views.{seen, sig_of}
 use Rattle.owned.proofs.Arguments.{Left}
 use Rattle.owned.proofs.checker.Checker.hands.Given as goal
 

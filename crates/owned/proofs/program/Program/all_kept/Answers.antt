@@ -1,5 +1,4 @@
 use Rattle.std.proofs.Common.{refl, arith}
-use Rattle.owned.specs.Views.{seen}
 use Rattle.owned.proofs.Whole.{found_few, found_there, rest_careless, rest_more, rest_done}
 use Rattle.owned.proofs.program.Program.all_kept.Goals as goal
 

@@ -1,5 +1,4 @@
-use Rattle.std.proofs.Common.{ℕ, ◌+◌, ◌<◌, ◌≤◌, ◌≡◌, ◌∙◌, Bool, true, false, sym, ap, subst, below_more, arith}
-use Rattle.owned.specs.VarSets.{bit_of}
+use Rattle.std.proofs.Common.{◌∙◌, ap}
 use Rattle.owned.specs.Decode.{variable}
 use Rattle.owned.proofs.Bits.{made_none, with_bit, without_bit}
 use Rattle.owned.proofs.varset.VarSet.of_those.Goals as goal

@@ -1,21 +1,21 @@
 use Rattle.std.proofs.Common.{length, refl, ap, ◌∙◌, arith}
 use Rattle.linker.specs.Links.{code}
 use Rattle.linker.proofs.Procedures.{through_begin, next_stands, through_more, through_done}
-use Rattle.linker.proofs.Linker.program.Goals as goal
+use Rattle.linker.proofs.tables.Linker.program.Goals as goal
 
 pub loop-at-init : goal.loop-at-init
-loop-at-init c = (through_begin (code c.args.self.now) c.requires.0, record { follow = refl; inner = refl; other = refl; procs = refl })
+loop-at-init c = (through_begin (code c.args.self.now), record { follow = refl; inner = refl; other = refl; procs = refl })
 
 pub procedure-at-requires : goal.procedure-at-requires
 procedure-at-requires c =
     let h = c.loop-at.invariant.0 in
-    let u = next_stands c.args.self.now.rows.now (code c.loop-at.self) c.loop-at.f c.loop-at.at h (omega (arith, ap length h.rows)) c.requires.1 in
-    (u.0, (h.room, (omega arith, u.1)))
+    let u = next_stands c.args.self.now.rows.now (code c.loop-at.self) c.loop-at.f c.loop-at.at h (omega (arith, ap length h.rows)) c.requires in
+    u
 
 pub overflow_add-f : goal.overflow_add-f
 overflow_add-f c =
     let h = c.loop-at.invariant.0 in
-    omega (arith, (next_stands c.args.self.now.rows.now (code c.loop-at.self) c.loop-at.f c.loop-at.at h (omega (arith, ap length h.rows)) c.requires.1).0)
+    omega (arith, (next_stands c.args.self.now.rows.now (code c.loop-at.self) c.loop-at.f c.loop-at.at h (omega (arith, ap length h.rows)) c.requires).0)
 
 pub loop-at-preserved : goal.loop-at-preserved
 loop-at-preserved c =

@@ -1,30 +1,24 @@
 use Rattle.std.proofs.Common.{length, ap, ◌∙◌, arith}
 use Rattle.linker.specs.Links.{code}
-use Rattle.linker.proofs.Changes.{room_stays, wrote_inner}
-use Rattle.linker.proofs.Marking.{ready, after, mark_leaf, stands_one, room_two, stands_two, mark_two, stands_body, mark_while}
-use Rattle.linker.proofs.Linker.+mark.Goals as goal
+use Rattle.linker.proofs.Changes.{room_of}
+use Rattle.linker.proofs.Marking.{ready, after, mark_leaf, stands_one, stands_two, mark_two, stands_body, mark_while}
+use Rattle.linker.proofs.tables.Linker.+mark.Goals as goal
 
 pub mark-second-requires : goal.mark-second-requires
 mark-second-requires t c =
     let p = c.mark_parts-first.ensures.marks in
-    let r = ready (code c.args.self.now) (code c.mark_parts-first.new.self) c.args.at c.mark_parts-first.result p c.requires.0 c.statement_head-head.result c.statement_head-head.ensures c.requires.1 in (
+    let r = ready (code c.args.self.now) (code c.mark_parts-first.new.self) c.args.at c.mark_parts-first.result p (room_of c.args.self.now) c.statement_head-head.result c.statement_head-head.ensures c.requires in (
       omega (arith, p.parts.later, p.parts.near, ap length p.within.below.rows),
-      (
-        room_stays _ _ _ _ (wrote_inner (code c.mark_parts-first.new.self) c.args.at c.mark_parts-first.result) r.room,
-        stands_one (code c.mark_parts-first.new.self) c.args.at c.mark_parts-first.result c.statement_head-head.result r c.in-Then.is,
-      ),
+      stands_one (code c.mark_parts-first.new.self) c.args.at c.mark_parts-first.result c.statement_head-head.result r c.in-Then.is,
     )
 
 pub mark-requires : goal.mark-requires
 mark-requires t c =
     let p = c.mark_parts-first.ensures.marks in
     let m = c.mark-second.ensures.marks in
-    let r = ready (code c.args.self.now) (code c.mark_parts-first.new.self) c.args.at c.mark_parts-first.result p c.requires.0 c.statement_head-head.result c.statement_head-head.ensures c.requires.1 in (
+    let r = ready (code c.args.self.now) (code c.mark_parts-first.new.self) c.args.at c.mark_parts-first.result p (room_of c.args.self.now) c.statement_head-head.result c.statement_head-head.ensures c.requires in (
       omega (arith, p.parts.later, p.parts.near, ap length p.within.below.rows, m.later, ap length m.within.below.rows),
-      (
-        room_two (code c.mark_parts-first.new.self) c.args.at c.mark_parts-first.result c.statement_head-head.result r c.in-Then.is _ _ m,
-        stands_two (code c.mark_parts-first.new.self) c.args.at c.mark_parts-first.result c.statement_head-head.result r c.in-Then.is _ _ m,
-      ),
+      stands_two (code c.mark_parts-first.new.self) c.args.at c.mark_parts-first.result c.statement_head-head.result r c.in-Then.is _ _ m,
     )
 
 pub returns-in-Then : goal.returns-in-Then
@@ -33,7 +27,7 @@ returns-in-Then t c =
     let y = c.mark-second.ensures.held in
     let z = c.mark.ensures.held in
     let p = c.mark_parts-first.ensures.marks in
-    let r = ready (code c.args.self.now) (code c.mark_parts-first.new.self) c.args.at c.mark_parts-first.result p c.requires.0 c.statement_head-head.result c.statement_head-head.ensures c.requires.1 in
+    let r = ready (code c.args.self.now) (code c.mark_parts-first.new.self) c.args.at c.mark_parts-first.result p (room_of c.args.self.now) c.statement_head-head.result c.statement_head-head.ensures c.requires in
     record {
       marks = after (code c.args.self.now) (code c.mark_parts-first.new.self) c.args.at c.mark_parts-first.result p c.statement_head-head.result r (code c.mark.new.self) c.mark.result
           (mark_two (code c.mark_parts-first.new.self) c.args.at c.mark_parts-first.result c.statement_head-head.result r c.in-Then.is (code c.mark-second.new.self) c.mark-second.result c.mark-second.ensures.marks (code c.mark.new.self) c.mark.result c.mark.ensures.marks);
@@ -43,12 +37,9 @@ returns-in-Then t c =
 pub mark-requires-in-While : goal.mark-requires-in-While
 mark-requires-in-While t c =
     let p = c.mark_parts-first.ensures.marks in
-    let r = ready (code c.args.self.now) (code c.mark_parts-first.new.self) c.args.at c.mark_parts-first.result p c.requires.0 c.statement_head-head.result c.statement_head-head.ensures c.requires.1 in (
+    let r = ready (code c.args.self.now) (code c.mark_parts-first.new.self) c.args.at c.mark_parts-first.result p (room_of c.args.self.now) c.statement_head-head.result c.statement_head-head.ensures c.requires in (
       omega (arith, p.parts.later, p.parts.near, ap length p.within.below.rows),
-      (
-        room_stays _ _ _ _ (wrote_inner (code c.mark_parts-first.new.self) c.args.at c.mark_parts-first.result) r.room,
-        stands_body (code c.mark_parts-first.new.self) c.args.at c.mark_parts-first.result c.statement_head-head.result r c.in-While.is,
-      ),
+      stands_body (code c.mark_parts-first.new.self) c.args.at c.mark_parts-first.result c.statement_head-head.result r c.in-While.is,
     )
 
 pub returns-in-While : goal.returns-in-While
@@ -56,7 +47,7 @@ returns-in-While t c =
     let x = c.mark_parts-first.ensures.held in
     let y = c.mark-in-While.ensures.held in
     let p = c.mark_parts-first.ensures.marks in
-    let r = ready (code c.args.self.now) (code c.mark_parts-first.new.self) c.args.at c.mark_parts-first.result p c.requires.0 c.statement_head-head.result c.statement_head-head.ensures c.requires.1 in
+    let r = ready (code c.args.self.now) (code c.mark_parts-first.new.self) c.args.at c.mark_parts-first.result p (room_of c.args.self.now) c.statement_head-head.result c.statement_head-head.ensures c.requires in
     record {
       marks = after (code c.args.self.now) (code c.mark_parts-first.new.self) c.args.at c.mark_parts-first.result p c.statement_head-head.result r (code c.mark-in-While.new.self) c.mark-in-While.result
           (mark_while (code c.mark_parts-first.new.self) c.args.at c.mark_parts-first.result c.statement_head-head.result r c.in-While.is (code c.mark-in-While.new.self) c.mark-in-While.result c.mark-in-While.ensures.marks);
@@ -66,7 +57,7 @@ returns-in-While t c =
 pub returns-in_default : goal.returns-in_default
 returns-in_default t c =
     let p = c.mark_parts-first.ensures.marks in
-    let r = ready (code c.args.self.now) (code c.mark_parts-first.new.self) c.args.at c.mark_parts-first.result p c.requires.0 c.statement_head-head.result c.statement_head-head.ensures c.requires.1 in
+    let r = ready (code c.args.self.now) (code c.mark_parts-first.new.self) c.args.at c.mark_parts-first.result p (room_of c.args.self.now) c.statement_head-head.result c.statement_head-head.ensures c.requires in
     record {
       marks = after (code c.args.self.now) (code c.mark_parts-first.new.self) c.args.at c.mark_parts-first.result p c.statement_head-head.result r (code c.mark_parts-first.new.self) c.mark_parts-first.result
           (mark_leaf (code c.mark_parts-first.new.self) c.args.at c.mark_parts-first.result c.statement_head-head.result r c.in_default.not-Then c.in_default.not-If c.in_default.not-While);

@@ -1,5 +1,5 @@
 use Rattle.std.proofs.Common.{◌-◌, length}
-use Rattle.linker.proofs.Linker.+link.Given as goal
+use Rattle.linker.proofs.tables.Linker.+link.Given as goal
 
 abbrev pub decreases-link : goal.decreases-link
 decreases-link l = length l.self.now.rows.now - l.at

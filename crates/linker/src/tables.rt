@@ -1,0 +1,16 @@
+ghost use Rattle.std.specs.Prelude.{◌≤◌, length};
+
+// The tables of a program while they are filled.
+#[derive(Drop)]
+pub(crate) struct Linker<'a> {
+    pub rows: &'a [u32],
+    pub follow: &'a mut [u32],
+    pub inner: &'a mut [u32],
+    pub other: &'a mut [u32],
+    pub procs: &'a mut [u32],
+    ghost short: { length rows.now ≤ 16384 },
+    ghost follow_room: { length rows.now ≤ length follow.now },
+    ghost inner_room: { length rows.now ≤ length inner.now },
+    ghost other_room: { length rows.now ≤ length other.now },
+    ghost procs_room: { 512 ≤ length procs.now },
+}
