@@ -8,16 +8,16 @@ use Rattle.owned.proofs.Chains.{T_and}
 use Rattle.owned.proofs.TypingRules.{rows_ok}
 use Rattle.owned.proofs.Stops.{machine_runs}
 use Rattle.owned.proofs.Safety.{nothing_left}
-use Rattle.interpreter.specs.declared.machine.Halt.{Halt}
-use Rattle.interpreter.specs.declared.machine.Halt.TheVariants.{Full, Spent, Deep}
+use Rattle.machine.specs.declared.machine.Halt.{Halt}
+use Rattle.machine.specs.declared.machine.Halt.TheVariants.{Full, Spent, Deep}
 use Rattle.interpreter.specs.declared.outcome.Ran.{Ran}
-use Rattle.interpreter.specs.Memory.{Control, Memory}
-use Rattle.interpreter.specs.Represents.{Shown}
-use Rattle.interpreter.specs.Steps.{Kept}
+use Rattle.machine.specs.Memory.{Control, Memory}
+use Rattle.machine.specs.Represents.{Shown}
+use Rattle.machine.specs.Steps.{Kept}
 use Rattle.linker.specs.Links.{LinkedAll}
-use Rattle.interpreter.specs.Running.{Starts, Came}
+use Rattle.machine.specs.Running.{Starts, Came}
 use Rattle.interpreter.specs.Going.{CanGo, Went, ended}
-use Rattle.interpreter.proofs.Words.{not_holds}
+use Rattle.machine.proofs.Words.{not_holds}
 
 -- the rows are not too many
 pub few_words : {s : List ℕ} {c d w : ℕ} → CanGo s c d w → length s ≤ 16384

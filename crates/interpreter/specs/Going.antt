@@ -5,8 +5,8 @@ use Rattle.owned.specs.Runs.{n, St, fine, full, spent, deep, run, used}
 use Rattle.owned.specs.Kept.{kept}
 use Rattle.owned.specs.Rows.{Rows}
 use Rattle.owned.specs.Says.{floor}
-use Rattle.interpreter.specs.declared.machine.Halt.{Halt}
-use Rattle.interpreter.specs.declared.machine.Halt.TheVariants.{Full, Spent, Deep}
+use Rattle.machine.specs.declared.machine.Halt.{Halt}
+use Rattle.machine.specs.declared.machine.Halt.TheVariants.{Full, Spent, Deep}
 use Rattle.interpreter.specs.declared.outcome.Ran.{Ran}
 use Rattle.interpreter.specs.declared.outcome.Ran.TheVariants as ran
 

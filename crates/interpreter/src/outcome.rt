@@ -1,9 +1,9 @@
 ghost use Rattle.std.specs.Prelude.{◌≡◌, ◌+◌, ◌*◌, ◌≤◌, length, nat_le};
-ghost use Rattle.interpreter.specs.Memory.{control};
+ghost use Rattle.machine.specs.Memory.{control};
 ghost use Rattle.interpreter.specs.Going.{GoPost, CanGo, Went, ended, named};
 
-use crate::machine::{Halt, Machine, Observer, Unobserved};
 use linker::{PROC_WORDS, link};
+use machine::{Halt, Machine, Observer};
 use owned::cells::link_all;
 use owned::{Judged, judge};
 
@@ -36,6 +36,14 @@ impl Ran {
             Ran::Small => "small",
         }
     }
+}
+
+// Nobody looks.
+#[derive(Drop)]
+struct Unobserved;
+
+impl Observer for Unobserved {
+    fn see(&mut self, _machine: &Machine<'_>) {}
 }
 
 // Words of the table of procedures, of which there are at most 64.

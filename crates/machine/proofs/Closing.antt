@@ -6,7 +6,7 @@ use Rattle.std.proofs.lemmas.Bool.{eq-eqb, ne_eqb, eqb-true, both_ways}
 use Rattle.owned.specs.Program.{Sig, kind}
 use Rattle.owned.specs.Kept.{is_num}
 use Rattle.owned.specs.VarSets.{bits}
-use Rattle.owned.specs.Code.{released}
+use Rattle.linker.specs.Code.{released}
 use Rattle.owned.specs.Runs.{Val, nothing, Cell, St, R, fine, bind, set_v, with_cells, stays}
 use Rattle.owned.proofs.Places.{nth_set_other}
 use Rattle.machine.specs.Memory.{Control, Memory}

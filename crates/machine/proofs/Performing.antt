@@ -106,11 +106,11 @@ module _ {c : Control} {m : Memory} {x y : ℕ} where
 
 -- set
 module _ {c : Control} {m : Memory} {x i : ℕ} where
-  sets : (p : Sig) (s : St) (r : R) (e : E) → Does c m (S.set x e) p s r → ExprAt c.code.rows e i → (k : ℕ) × Evaluates c m i p s e k × (x < length s.vars) × (fine (set_v s x (n k)) ≡ r)
+  sets : (p : Sig) (s : St) (r : R) (e : E) → Does c m (S.set x e) p s r → ExprAt c.code e i → (k : ℕ) × Evaluates c m i p s e k × (x < length s.vars) × (fine (set_v s x (n k)) ≡ r)
   sets p s r e d w =
       let k = number_of d.well (value s e) _ d.does in
       let t = there_of d.well (slice_get s.vars x) _ k.2 in
-      (k.0, record { state = d.state; words = w; value = k.1 }, nth_lt s.vars x t.0 t.1, t.2)
+      (k.0, record { state = d.state; expr = w; value = k.1 }, nth_lt s.vars x t.0 t.1, t.2)
 
   pub set_can : CanDoAt c m (S.set x) i → CanEvaluate c m i
   set_can h = can c m i (sets h.0 h.1 h.2 h.3 h.4 h.5).1
@@ -119,12 +119,12 @@ module _ {c : Control} {m : Memory} {x : ℕ} where
   pub set_there : (i : ℕ) → CanDoAt c m (S.set x) i → c.base + x < length m.frames
   set_there i h = (get_var h.4.state x (sets {i = i} h.0 h.1 h.2 h.3 h.4 h.5).2).0
 
-  pub set_done : {i : ℕ} {c₁ : Control} {m₁ : Memory} {w : ℕ × ℕ} → Evaluated c m i w → c₁ ≡ c → m₁ ≡ set_word m (c.base + x) w.0 → DidAt c m (S.set x) i c₁ m₁
+  pub set_done : {i : ℕ} {c₁ : Control} {m₁ : Memory} {w : ℕ} → Evaluated c m i w → c₁ ≡ c → m₁ ≡ set_word m (c.base + x) w → DidAt c m (S.set x) i c₁ m₁
   set_done {i} {c₁} {m₁} {w} ev hc hm = record {
     here = hc;
     state = λ p s r e d q. (
         let t = sets p s r e d q in
-        record { end = set_v s x (n t.0); is = sym t.3; state = rw hm (with_var d.state x (n t.0) w.0 t.2 (ev p s e t.0 t.1).0) });
+        record { end = set_v s x (n t.0); is = sym t.3; state = rw hm (with_var d.state x (n t.0) w t.2 (ev p s e t.0 t.1)) });
   }
 
 -- box
@@ -316,8 +316,8 @@ module _ {c : Control} {m : Memory} {x y : ℕ} where
 
 -- show
 module _ {c : Control} {m : Memory} {i : ℕ} where
-  shows_it : (p : Sig) (s : St) (r : R) (e : E) → Does c m (S.show e) p s r → ExprAt c.code.rows e i → (k : ℕ) × Evaluates c m i p s e k × (fine (record { vars = s.vars; cells = s.cells; shown = s.shown ++ (k ∷ []); left = s.left; made = s.made }) ≡ r)
-  shows_it p s r e d w = let k = number_of d.well (value s e) _ d.does in (k.0, record { state = d.state; words = w; value = k.1 }, k.2)
+  shows_it : (p : Sig) (s : St) (r : R) (e : E) → Does c m (S.show e) p s r → ExprAt c.code e i → (k : ℕ) × Evaluates c m i p s e k × (fine (record { vars = s.vars; cells = s.cells; shown = s.shown ++ (k ∷ []); left = s.left; made = s.made }) ≡ r)
+  shows_it p s r e d w = let k = number_of d.well (value s e) _ d.does in (k.0, record { state = d.state; expr = w; value = k.1 }, k.2)
 
   pub show_can : CanDoAt c m S.show i → CanEvaluate c m i
   show_can h = can c m i (shows_it h.0 h.1 h.2 h.3 h.4 h.5).1
@@ -339,13 +339,13 @@ module _ {c : Control} {m : Memory} where
       go true e = record { kinds = st.kinds; few = st.few; vars = st.vars; long = st.long; cells = st.cells; shown = shown_more c.over c.shown c.count s.shown w st.shown (ltb-true c.count (length c.shown) e); turns = st.turns }
       go false e = record { kinds = st.kinds; few = st.few; vars = st.vars; long = st.long; cells = st.cells; shown = shown_over c.over c.shown c.count s.shown w st.shown (ltb-false c.count (length c.shown) e); turns = st.turns }
 
-  pub show_done : {i : ℕ} {c₁ : Control} {m₁ : Memory} {w : ℕ × ℕ} → Evaluated c m i w → c₁ ≡ shows c w.0 → m₁ ≡ m → Showed c m i c₁ m₁
+  pub show_done : {i : ℕ} {c₁ : Control} {m₁ : Memory} {w : ℕ} → Evaluated c m i w → c₁ ≡ shows c w → m₁ ≡ m → Showed c m i c₁ m₁
   show_done {i} {c₁} {m₁} {w} ev hc hm = record {
-    word = w.0;
+    word = w;
     here = hc;
     same = hm;
     state = λ p s r e d q. (
         let t = shows_it p s r e d q in
-        let z = (ev p s e t.0 t.1).0 in
+        let z = ev p s e t.0 t.1 in
         record { end = _; is = sym t.2; state = rw (hc, hm, z) (show_state t.0 d.state) });
   }

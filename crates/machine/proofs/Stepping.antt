@@ -97,8 +97,8 @@ module _ {g : Prog} {c : Control} {m : Memory} {d : ℕ} {p : Sig} {b : S} {ss :
 pub on_kept : {c c₁ c₂ : Control} → c₁ ≡ c → c₂ ≡ go_to c₁ (get_or c₁.code.follow c₁.pos 0) → Kept c c₂
 on_kept e f = let z = f ∙ ap (λ (z : Control). go_to z (get_or z.code.follow z.pos 0)) e in kept_same (ap (λ (z : Control). z.out) z) (ap (λ (z : Control). z.shown) z) (ap (λ (z : Control). z.count) z)
 
-pub room_on : {c c₁ : Control} {m : Memory} → c₁ ≡ c → CanStep S any_s c m → c₁.pos < length c₁.code.follow
-room_on e h = rw e h.room
+pub room_on : {c c₁ : Control} {m : Memory} {at : ℕ} → c₁ ≡ c → at ≡ c.pos → CanStep S any_s c m → (at ≡ c₁.pos) × (c₁.pos < length c₁.code.follow)
+room_on e i h = rw e (i, h.room)
 
 module _ (b : S) (once : AtOnce b) {c : Control} {m : Memory} (is : All c m (λ a. a ≡ b)) where
   once_can : CanStep S any_s c m → CanDo c m b
@@ -142,8 +142,8 @@ module _ {c : Control} {m : Memory} where
   no_pair c₁ m₁ r e g d p a ss s fs h = let q = fits_head h e in let z : true ≡ false = sym h.rep.singles.0 ∙ ap single q.2 in let y : ◌≡◌ {A = ℕ} 0 1 = cc in absurd (omega arith)
 
   -- with an expression
-  set_words : {g : Prog} {d : ℕ} {p : Sig} {x : ℕ} {e : E} {ss : List S} {s : St} {fs : List Frame} → Ready g c m d p (S.set x e) ss s fs → ExprAt c.code.rows e (c.pos + 2)
-  set_words {x = x} h = ((standing h).words.0, drop_past c.pos c.code.rows (2 ∷ x ∷ []) _ (standing h).words.1)
+  set_words : {g : Prog} {d : ℕ} {p : Sig} {x : ℕ} {e : E} {ss : List S} {s : St} {fs : List Frame} → Ready g c m d p (S.set x e) ss s fs → ExprAt c.code e (c.pos + 2)
+  set_words {x = x} h = record { words = ((standing h).words.0, drop_past c.pos c.code.rows (2 ∷ x ∷ []) _ (standing h).words.1); table = (standing h).expr }
 
   pub set_can : (x : Var) → Says c (Set x) → CanStep S any_s c m → CanDoAt c m (S.set x.0) (c.pos + 2)
   set_can x e h =
@@ -157,8 +157,8 @@ module _ {c : Control} {m : Memory} where
       let i = as_is q.1 h in
       subst (λ z. Going g c₂ m₂ (strict_s first_free g d p z ss s fs)) (sym q.1) (went (λ g d p ss s fs. refl) i k.here (k.state p s (perform first_free p (S.set x.0 q.0) s) q.0 (does (λ g d p ss s fs. refl) i) (set_words i)) e₂ f)
 
-  show_words : {g : Prog} {d : ℕ} {p : Sig} {e : E} {ss : List S} {s : St} {fs : List Frame} → Ready g c m d p (S.show e) ss s fs → ExprAt c.code.rows e (c.pos + 1)
-  show_words h = ((standing h).words.0, drop_past c.pos c.code.rows (12 ∷ []) _ (standing h).words.1)
+  show_words : {g : Prog} {d : ℕ} {p : Sig} {e : E} {ss : List S} {s : St} {fs : List Frame} → Ready g c m d p (S.show e) ss s fs → ExprAt c.code e (c.pos + 1)
+  show_words h = record { words = ((standing h).words.0, drop_past c.pos c.code.rows (12 ∷ []) _ (standing h).words.1); table = (standing h).expr }
 
   pub show_can : Says c Show → CanStep S any_s c m → CanDoAt c m S.show (c.pos + 1)
   show_can e h =
@@ -197,9 +197,9 @@ module _ {c c₁ : Control} (w : ℕ) (e : c₁ ≡ shows c w) where
       let k : Kept c c₁ = rw e (shown_kept c w (ltb c.count (length c.shown)) refl) in
       rw f (record { out = k.out; long = k.long; more = k.more; past = k.past })
 
-  pub show_room : {m : Memory} → CanStep S any_s c m → c₁.pos < length c₁.code.follow
-  show_room h = rw e (go (ltb c.count (length c.shown)))
+  pub show_room : {m : Memory} {at : ℕ} → at ≡ c.pos → CanStep S any_s c m → (at ≡ c₁.pos) × (c₁.pos < length c₁.code.follow)
+  show_room {m} {at} i h = rw e (go (ltb c.count (length c.shown)))
     where
-      go : (b : Bool) → (cond b (showing c w) (too_many c)).pos < length (cond b (showing c w) (too_many c)).code.follow
-      go true = h.room
-      go false = h.room
+      go : (b : Bool) → (at ≡ (cond b (showing c w) (too_many c)).pos) × ((cond b (showing c w) (too_many c)).pos < length (cond b (showing c w) (too_many c)).code.follow)
+      go true = (i, h.room)
+      go false = (i, h.room)

@@ -41,14 +41,7 @@ in_use_there (c ∷ cs) (suc a) b v e = let l = in_use_there cs a b v e in omega
 pub not_holds : {B : Type 0} (b : ℕ) (v : Val) → free ≡ holds b v → B
 not_holds b v e = let z : ◌≡◌ {A = ℕ} 0 1 = cc in absurd (omega arith)
 
--- what stands where a cell is set
-pub cell_set : (cs : List Cell) (a : ℕ) (c : Cell) → a < length cs → get_or (set cs a c) a free ≡ c
-cell_set cs a c l = get_or-set_same cs a c free l
-
 module _ {c : Control} {m : Memory} {p : Sig} {s : St} (r : State c m p s) where
-  pub var_there : (x : ℕ) (v : Val) → slice_get s.vars x ≡ Some v → x < length s.vars
-  var_there x v e = nth_lt s.vars x v e
-
   pub get_var : (x : ℕ) → x < length s.vars → (c.base + x < length m.frames) × Means (get s x) (get_or m.frames (c.base + x) 0)
   get_var x l = (omega (arith, r.vars.room), r.vars.each x l)
 

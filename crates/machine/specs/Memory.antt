@@ -1,6 +1,6 @@
 -- What the machine's struct holds, as plain values: where it stands, and its memory.
 use Rattle.std.specs.Prelude.{ℕ, ◌+◌, ◌-◌, ◌*◌, Bool, true, cond, List, length, take, nat_lt, slice_index, slice_set}
-use Rattle.owned.specs.Code.{Code}
+use Rattle.linker.specs.Code.{Code}
 use Rattle.machine.specs.declared.machine.Machine.{Machine}
 
 -- Where the machine stands, with all that an operation on variables and cells leaves as it is: also the frames below

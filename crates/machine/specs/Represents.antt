@@ -5,7 +5,7 @@ use Rattle.owned.specs.Program.{S, Sig, Proc, Prog}
 use Rattle.owned.specs.Runs.{Val, n, at, nothing, Cell, free, holds, St}
 use Rattle.owned.specs.Machine.{Frame}
 use Rattle.owned.specs.FreeList.{FreeList}
-use Rattle.owned.specs.Code.{Code, Pends, ProcAt}
+use Rattle.linker.specs.Code.{Code, Pends, ProcAt}
 use Rattle.machine.specs.Memory.{Control, Memory}
 
 -- a value in a word: a number itself, a box by its cell's number and one more, nothing as 0
@@ -76,9 +76,10 @@ pub record FrameAt (c : Code) (ws : List ℕ) (b : ℕ) (f : Frame) : Type 0 whe
   pub long : length f.vars ≡ length f.sig.kinds
   pub dest : get_or ws (b + 34) 0 ≡ f.dest
 
--- the callers, the innermost just below place b
+-- The callers, the innermost just below place b. The first procedure's frame is the second one: the words of the
+-- first are nobody's.
 abbrev pub Frames : Code → List ℕ → ℕ → List Frame → Type 0
-Frames c ws b [] = b ≡ 0
+Frames c ws b [] = b ≡ 40
 Frames c ws b (f ∷ fs) = (a : ℕ) × (b ≡ a + 40) × FrameAt c ws a f × Frames c ws a fs
 
 -- what is around the running procedure: the tables of the whole program, the callers, and room for d more calls;

@@ -26,6 +26,15 @@ After g c m w (Err Full) = w ≡ stopped full
 After g c m w (Err Spent) = w ≡ stopped spent
 After g c m w (Err Deep) = w ≡ stopped deep
 
+-- the same of a step that gives the place where the machine goes on, and that place
+abbrev pub halted : Result ℕ Halt → Result (Unit {0}) Halt
+halted (Ok q) = Ok tt
+halted (Err h) = Err h
+
+abbrev pub Next : Control → Result ℕ Halt → Type 0
+Next c (Ok q) = q ≡ c.pos
+Next c (Err h) = Unit {0}
+
 -- a statement a that comes next, and does not come to a fault
 pub record Ready (g : Prog) (c : Control) (m : Memory) (d : ℕ) (p : Sig) (a : S) (ss : List S) (s : St) (fs : List Frame) : Type 0 where
   pub rep : Represents g c m d p (a ∷ ss) s fs

@@ -4,8 +4,9 @@ mod branches;
 mod calls;
 mod cells;
 mod frames;
-mod links;
 mod machine;
 mod returns;
 mod statements;
 mod values;
+
+pub use machine::{Halt, Machine, Observer, Progress};

@@ -3,13 +3,14 @@ ghost use Rattle.owned.specs.Program.{S};
 ghost use Rattle.owned.specs.Decode.{head_by, variable};
 ghost use Rattle.owned.specs.declared.decode.Statement.TheVariants.{Between};
 ghost use Rattle.machine.specs.Memory.{control, memory};
-ghost use Rattle.machine.specs.Steps.{CanStep, Stepped, Kept, any_s};
+ghost use Rattle.machine.specs.Steps.{CanStep, Stepped, Kept, Next, halted, any_s};
+ghost use Rattle.machine.specs.Running.{CanAdvance, Advanced, Onward, CanRun, CameOut, CanStart, Ran};
 
+use crate::frames::FRAME_WORDS;
 use owned::decode::{Statement, Transfer};
 use owned::names::Var;
 
-// The program with its tables, and lent memory. Frames have 40 words each: 32 variables, then where the procedure goes
-// on once the one it called returns, its number, and the variable for the result.
+// The program with its tables, and lent memory.
 #[derive(Drop)]
 pub struct Machine<'a> {
     pub rows: &'a [u32],
@@ -41,6 +42,19 @@ pub enum Halt {
     Deep,
 }
 
+// What a step comes to: the run goes on at this place, it is done and this is its result, or it stops before its end.
+#[derive(Clone, Copy, Debug, PartialEq, Eq)]
+pub enum Progress {
+    Going(usize),
+    Done(u32),
+    Stopped(Halt),
+}
+
+// Who looks at the machine after each step after which a run goes on.
+pub trait Observer {
+    fn see(&mut self, machine: &Machine<'_>);
+}
+
 impl<'a> Machine<'a> {
     // A word of the rows.
     fn word(&self, at: usize) -> u32
@@ -51,30 +65,31 @@ impl<'a> Machine<'a> {
     }
 
     // A statement with a destination and a source, at the machine's place.
-    fn between(&self, what: Transfer) -> Statement
-        requires { (control self.now).pos + 2 < length (control self.now).code.rows }
+    fn between(&self, at: usize, what: Transfer) -> Statement
+        requires at { at ≡ (control self.now).pos }
+        requires room { (control self.now).pos + 2 < length (control self.now).code.rows }
         ensures { result ≡ Between what (variable (slice_index (control self.now).code.rows ((control self.now).pos + 1))) (variable (slice_index (control self.now).code.rows ((control self.now).pos + 2))) }
     {
-        let x = self.word(self.pos + 1);
-        let y = self.word(self.pos + 2);
+        let x = self.word(at + 1);
+        let y = self.word(at + 2);
         Statement::Between(what, Var(x), Var(y))
     }
 
     // The statement at the machine's place, without the parts that follow it. It is no pair.
-    fn statement(&self) -> Statement
-        requires { CanStep S any_s (control self.now) (memory self.now) }
+    fn statement(&self, at: usize) -> Statement
+        requires at { at ≡ (control self.now).pos }
+        requires can { CanStep S any_s (control self.now) (memory self.now) }
         ensures { head_by (slice_index (control self.now).code.rows (control self.now).pos) (slice_index (control self.now).code.rows ((control self.now).pos + 1)) (slice_index (control self.now).code.rows ((control self.now).pos + 2)) (slice_index (control self.now).code.rows ((control self.now).pos + 3)) ≡ Some result }
     {
-        let at = self.pos;
         match self.rows[at] {
             0 => Statement::Skip,
             1 => Statement::Then,
             2 => Statement::Set(Var(self.word(at + 1))),
-            3 => self.between(Transfer::Box),
-            4 => self.between(Transfer::Unbox),
-            5 => self.between(Transfer::Look),
-            6 => self.between(Transfer::Fill),
-            7 => self.between(Transfer::Move),
+            3 => self.between(at, Transfer::Box),
+            4 => self.between(at, Transfer::Unbox),
+            5 => self.between(at, Transfer::Look),
+            6 => self.between(at, Transfer::Fill),
+            7 => self.between(at, Transfer::Move),
             8 => Statement::Drop(Var(self.word(at + 1))),
             9 => Statement::If,
             10 => Statement::While,
@@ -83,35 +98,102 @@ impl<'a> Machine<'a> {
         }
     }
 
-    // One step: a statement that is no end of a procedure.
-    pub(crate) fn step(&mut self) -> Result<(), Halt>
-        requires { CanStep S any_s (control self.old) (memory self.old) }
-        ensures stepped { Stepped S any_s (control self.old) (memory self.old) (control self.new) (memory self.new) result }
+    // The statement at the machine's place.
+    fn execute(&mut self, at: usize) -> Result<usize, Halt>
+        requires at { at ≡ (control self.old).pos }
+        requires can { CanStep S any_s (control self.old) (memory self.old) }
+        ensures stepped { Stepped S any_s (control self.old) (memory self.old) (control self.new) (memory self.new) (halted result) }
         ensures kept { Kept (control self.old) (control self.new) }
+        ensures next { Next (control self.new) result }
     {
-        let at = self.pos;
-        match self.statement() {
-            Statement::Skip | Statement::Then => self.proceed(),
+        match self.statement(at) {
+            Statement::Skip | Statement::Then => Ok(self.proceed(at)),
             Statement::Set(x) => {
                 self.set_number(x, at + 2);
-                self.proceed();
+                Ok(self.proceed(at))
             }
             Statement::Between(what, x, y) => match self.transfer(what, x, y) {
-                Ok(()) => self.proceed(),
-                Err(halt) => return Err(halt),
+                Ok(()) => Ok(self.proceed(at)),
+                Err(halt) => Err(halt),
             },
             Statement::Drop(x) => {
                 self.drop_value(x);
-                self.proceed();
+                Ok(self.proceed(at))
             }
-            Statement::If => self.branch(),
-            Statement::While => return self.repeat(),
-            Statement::Call(x, f, many) => return self.call(x, f, many),
+            Statement::If => Ok(self.branch(at)),
+            Statement::While => self.repeat(at),
+            Statement::Call(x, f, many) => self.call(at, x, f, many),
             Statement::Show => {
                 self.show(at + 1);
-                self.proceed();
+                Ok(self.proceed(at))
             }
         }
-        Ok(())
+    }
+
+    // One step of a run: the next statement, the end of a procedure that was called, or the end of the first. The
+    // machine's place is handed from step to step, so that it stays in a register: a step need not load what the step
+    // before it stored.
+    pub fn step(&mut self, at: usize) -> Progress
+        requires at { at ≡ (control self.old).pos }
+        requires can { CanAdvance (control self.old) (memory self.old) }
+        ensures advanced { Advanced (control self.old) (memory self.old) (control self.new) (memory self.new) result }
+        ensures kept { Kept (control self.old) (control self.new) }
+        ensures next { Onward (control self.new) result }
+    {
+        if at < self.rows.len() {
+            return match self.execute(at) {
+                Ok(next) => Progress::Going(next),
+                Err(halt) => Progress::Stopped(halt),
+            };
+        }
+        if self.base > FRAME_WORDS {
+            return Progress::Going(self.leave());
+        }
+        self.finish();
+        Progress::Done(self.result())
+    }
+
+    // Runs on, in so many steps at most. Gives the result, which is a number.
+    fn run_on<O: Observer>(
+        &mut self,
+        at: usize,
+        budget: u128,
+        observer: &mut O,
+    ) -> Result<u32, Halt>
+        requires at { at ≡ (control self.old).pos }
+        requires can { CanRun budget (control self.old) (memory self.old) }
+        ensures came { CameOut budget (control self.old) (memory self.old) (control self.new) result }
+        ensures kept { Kept (control self.old) (control self.new) }
+    {
+        let mut left = budget;
+        let mut at = at;
+        loop {
+            match self.step(at) {
+                Progress::Going(next) => {
+                    left -= 1;
+                    at = next;
+                }
+                Progress::Done(result) => return Ok(result),
+                Progress::Stopped(halt) => return Err(halt),
+            }
+            observer.see(self);
+        }
+    }
+
+    // Runs a whole program, from its first procedure on, in so many steps at most. Gives the result, which is a number.
+    pub fn run<O: Observer>(&mut self, budget: u128, observer: &mut O) -> Result<u32, Halt>
+        requires { CanStart budget (control self.old) (memory self.old) }
+        ensures came { Ran budget (control self.old) (memory self.old) (control self.new) result }
+        ensures kept { Kept (control self.old) (control self.new) }
+    {
+        if self.depth == 0 {
+            return Err(Halt::Deep);
+        }
+        if self.turns == 0 {
+            return Err(Halt::Spent);
+        }
+        self.turns -= 1;
+        let at = self.open(0, 0);
+        self.run_on(at, budget, observer)
     }
 }

@@ -14,7 +14,7 @@ impl<'a> Machine<'a> {
         requires { CanDoAt (control self.old) (memory self.old) (set_s x.0) at }
         ensures { DidAt (control self.old) (memory self.old) (set_s x.0) at (control self.new) (memory self.new) }
     {
-        let (word, _) = self.operand(at);
+        let word = self.value(at);
         self.store(x, word);
     }
 
@@ -118,7 +118,7 @@ impl<'a> Machine<'a> {
         requires { CanDoAt (control self.old) (memory self.old) show_s at }
         ensures { Showed (control self.old) (memory self.old) at (control self.new) (memory self.new) }
     {
-        let (word, _) = self.operand(at);
+        let word = self.value(at);
         self.write_number(word);
     }
 }

@@ -1,5 +1,5 @@
 use Rattle.std.proofs.Common.{refl, arith, rules}
-use Rattle.interpreter.specs.Memory.{control}
+use Rattle.machine.specs.Memory.{control}
 use Rattle.interpreter.proofs.Outcomes.{few_words, starting, enough_steps, told, went_as}
 use Rattle.interpreter.proofs.outcome.run_kept.Goals as goal
 
