@@ -10,7 +10,7 @@ use Rattle.owned.specs.Strict.{or_fault, closes, returned, strict}
 use Rattle.machine.specs.declared.machine.Halt.{Halt}
 use Rattle.machine.specs.declared.machine.Progress.TheVariants as progress
 use Rattle.machine.specs.Memory.{Control, Memory}
-use Rattle.machine.specs.Represents.{Means, Shown, Frames}
+use Rattle.machine.specs.Represents.{Means, Shows, Frames}
 use Rattle.machine.specs.Operations.{NoFault}
 use Rattle.machine.specs.Steps.{Ready, CanStep, Stepped, Kept, any_s}
 use Rattle.machine.specs.Calls.{Closes, CanClose, ClosedTo, Closed, CanLeave, Left}
@@ -42,11 +42,11 @@ module _ {c : Control} {m : Memory} where
             let r : Ready w.prog c m w.depth w.sig a ss w.state w.callers = record { rep = h.rep; well = h.well } in
             record { prog = w.prog; depth = w.depth; sig = w.sig; parts = a; rest = ss; state = w.state; callers = w.callers; ready = r; here = l; room = (standing r).room }
 
-    pub executed_on : {c₁ : Control} {m₁ : Memory} (q : ℕ) → Stepped S any_s c m c₁ m₁ (Ok tt) → Advanced c m c₁ m₁ (progress.Going q)
+    pub executed_on : {c₁ : Control} {m₁ : Memory} (q : ℕ) → Stepped S any_s c m c₁ m₁ (Ok tt) → Advanced c m c₁ m₁ (Ok (progress.Going q))
     executed_on q st g d p [] s fs h = absurd (omega (arith, l, h.rep.pends))
     executed_on q st g d p (a ∷ ss) s fs h = st g d p a ss s fs (record { rep = h.rep; well = h.well })
 
-    pub executed_halt : (c₁ : Control) (m₁ : Memory) (f : Halt) → Stepped S any_s c m c₁ m₁ (Err f) → Advanced c m c₁ m₁ (progress.Stopped f)
+    pub executed_halt : (c₁ : Control) (m₁ : Memory) (f : Halt) → Stepped S any_s c m c₁ m₁ (Err f) → Advanced c m c₁ m₁ (Err f)
     executed_halt c₁ m₁ f st g d p [] s fs h = absurd (omega (arith, l, h.rep.pends))
     executed_halt c₁ m₁ f st g d p (a ∷ ss) s fs h = st g d p a ss s fs (record { rep = h.rep; well = h.well })
 
@@ -64,7 +64,7 @@ module _ {c : Control} {m : Memory} where
           go [] [] h = absurd (omega (arith, z, h.rep.context.frames))
           go [] (f ∷ fs) h = record { prog = w.prog; depth = w.depth; sig = w.sig; state = w.state; caller = f; callers = fs; leaves = record { rep = h.rep; well = h.well } }
 
-      pub left_on : {c₁ : Control} {m₁ : Memory} (q : ℕ) → Left c m c₁ m₁ → Advanced c m c₁ m₁ (progress.Going q)
+      pub left_on : {c₁ : Control} {m₁ : Memory} (q : ℕ) → Left c m c₁ m₁ → Advanced c m c₁ m₁ (Ok (progress.Going q))
       left_on q st g d p (a ∷ ss) s fs h = none g d p a ss s fs h
       left_on q st g d p [] s [] h = absurd (omega (arith, z, h.rep.context.frames))
       left_on q st g d p [] s (f ∷ fs) h = st g d p s f fs (record { rep = h.rep; well = h.well })
@@ -85,7 +85,7 @@ module _ {c : Control} {m : Memory} where
       module _ {c₁ : Control} {m₁ : Memory} (e : Closed c m c₁ m₁) where
         -- what the variables that stay hold
         record Ended (g : Prog) (d : ℕ) (p : Sig) (ss : List S) (s : St) (fs : List Frame) : Type 0 where
-          pub to : ClosedTo c.cells m₁ p s (closes p 0 p.kinds s)
+          pub to : ClosedTo m₁.store p s (closes p 0 p.kinds s)
           pub value : Val
           pub there : slice_get s.vars p.result ≡ Some value
           pub is : strict first_free g (going d p ss s fs) ≡ stopped (last value (with_vars to.end []))
@@ -106,12 +106,12 @@ module _ {c : Control} {m : Memory} where
             let q = w.steps in
             rw e.here ((final w.prog w.depth w.sig w.todo w.state w.callers q).room, rw q.rep.row.1.result (word w.prog w.depth w.sig w.todo w.state w.callers q).0)
 
-        done : (w : ℕ) (v : Val) (t : St) (r : R) → NoFault r → Means v w → r ≡ last v (with_vars t []) → Shown c₁.over c₁.shown c₁.count t.shown → c₁.turns ≡ t.left → Done c₁ w r
+        done : (w : ℕ) (v : Val) (t : St) (r : R) → NoFault r → Means v w → r ≡ last v (with_vars t []) → Shows c₁.output t.shown → c₁.turns ≡ t.left → Done c₁ w r
         done w (n j) t r nf me i sh tu = record { end = record { vars = n j ∷ []; cells = t.cells; shown = t.shown; left = t.left; made = t.made }; is = i; result = ap (λ z. n z ∷ []) (sym me); shown = sh; left = tu }
         done w (at a b) t r nf me i sh tu = absurd (nf 4 i)
         done w nothing t r nf me i sh tu = absurd (nf 4 i)
 
-        pub finished : {w : ℕ} → w ≡ get_or m₁.frames (c₁.base + get_or c₁.code.procs (8 * c₁.procedure + 2) 0) 0 → Advanced c m c₁ m₁ (progress.Done w)
+        pub finished : {w : ℕ} → w ≡ get_or m₁.frames (c₁.base + get_or c₁.code.procs (8 * c₁.procedure + 2) 0) 0 → Advanced c m c₁ m₁ (Ok (progress.Done w))
         finished {w} f g d p ss s fs h =
             let b = ended g d p ss s fs h in
             let y = h.rep.state in
@@ -119,7 +119,7 @@ module _ {c : Control} {m : Memory} where
               last b.value (with_vars b.to.end []),
               b.is,
               done w b.value b.to.end (last b.value (with_vars b.to.end [])) (λ k q. h.well k (b.is ∙ ap stopped q)) (rw x (word g d p ss s fs h).1) refl
-                  (subst (λ (z : Control). Shown z.over z.shown z.count b.to.end.shown) (sym e.here) (subst (λ l. Shown c.over c.shown c.count l) (sym b.to.shown) y.shown))
+                  (subst (λ (z : Control). Shows z.output b.to.end.shown) (sym e.here) (subst (Shows c.output) (sym b.to.shown) y.shown))
                   (ap (λ (z : Control). z.turns) e.here ∙ y.turns ∙ sym b.to.left),
             )
 

@@ -8,15 +8,16 @@ use Rattle.owned.specs.Machine.{Frame, Mach, going, stopped, push, num_m, turn_m
 use Rattle.owned.specs.Strict.{strict_s}
 use Rattle.linker.specs.Code.{Here, Pends}
 use Rattle.machine.specs.declared.machine.Halt.TheVariants.{Spent}
-use Rattle.machine.specs.Memory.{Control, Memory, go_to, with_turns}
+use Rattle.machine.specs.Memory.{Numbers, Control, Memory, go_to, with_turns}
 use Rattle.machine.specs.Represents.{State, Context, Represents}
 use Rattle.machine.specs.Operations.{Evaluates, CanEvaluate, Evaluated}
 use Rattle.machine.specs.Steps.{Going, Ready, CanStep, Stepped, Kept, if_s, while_s}
 use Rattle.machine.proofs.Evaluating.{can}
 use Rattle.machine.proofs.Pending.{entered_pends, push_singles, stands, first_word, expr_next}
 
-pub kept_same : {c c₁ : Control} → c₁.out ≡ c.out → c₁.shown ≡ c.shown → c₁.count ≡ c.count → Kept c c₁
-kept_same {c} {c₁} o s k = record { out = o; long = ap length s; more = omega (arith, k); past = ap (drop c₁.count) s }
+-- the numbers shown are the same
+pub kept_same : {c c₁ : Control} → c₁.output ≡ c.output → Kept c c₁
+kept_same {c} {c₁} e = record { out = ap (λ (o : Numbers). o.out) e; long = ap (λ (o : Numbers). length o.shown) e; more = omega (arith, ap (λ (o : Numbers). o.count) e); past = ap (λ (o : Numbers). drop c₁.output.count o.shown) e }
 
 -- the machine at another place, the rest as it is
 pub moved : {c : Control} {m : Memory} {p : Sig} {s : St} (q : ℕ) → State c m p s → State (go_to c q) m p s

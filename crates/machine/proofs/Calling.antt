@@ -9,7 +9,7 @@ use Rattle.owned.specs.Machine.{Frame, Mach, going, stopped, push, turn_m, hand_
 use Rattle.linker.specs.Code.{ProcAt}
 use Rattle.machine.specs.declared.machine.Halt.TheVariants.{Spent, Deep}
 use Rattle.machine.specs.Memory.{Control, Memory, with_turns, entered}
-use Rattle.machine.specs.Represents.{Vars, Heap, Shown, State, FrameAt, Frames, Represents}
+use Rattle.machine.specs.Represents.{Vars, Heap, Shows, State, FrameAt, Frames, Represents}
 use Rattle.owned.specs.Strict.{pass_one, pass, enters, strict_s}
 use Rattle.machine.specs.Steps.{Going, Ready, CanStep, Stepped, Kept, call_s}
 use Rattle.machine.specs.Calls.{Passes, CanPass, Passed, suspended, Blanked, Opened}
@@ -58,8 +58,8 @@ entering g (suc e) f vs t fs well nz args = go (slice_get g f) refl well
 -- a procedure's first state, in memory: frames below it are given
 module _ (c : Control) {f : ℕ} {q : Proc} {vs : List Val} (s₀ : St) {m₂ m₃ : Memory} {n : ℕ}
     (row : ProcAt c.code f q) (few : length q.sig.kinds ≤ 32) (fits : length vs ≤ length q.sig.kinds) (en : n ≡ length vs)
-    (room : c.base + 80 ≤ length m₂.frames) (vars : Vars vs m₂.frames (c.base + 40)) (heap : Heap c.cells m₂ s₀.cells)
-    (shown : Shown c.over c.shown c.count s₀.shown) (turns : c.turns ≡ s₀.left)
+    (room : c.base + 80 ≤ length m₂.frames) (vars : Vars vs m₂.frames (c.base + 40)) (heap : Heap m₂.store s₀.cells)
+    (shown : Shows c.output s₀.shown) (turns : c.turns ≡ s₀.left)
     (b : Blanked (c.base + 40) n (get_or c.code.procs (8 * f + 1) 0) m₂ m₃) where
   pub opened_state : State (entered c f m₂.frames) m₃ q.sig (opening q.sig vs s₀)
   opened_state =
@@ -69,7 +69,7 @@ module _ (c : Control) {f : ℕ} {q : Proc} {vs : List Val} (s₀ : St) {m₂ m�
         few = few;
         vars = opened_vars vs q.sig.kinds (c.base + 40) _ m₂ m₃ fits row.many (omega (arith, room, few, row.many)) vars h;
         long = opened_long vs q.sig.kinds fits;
-        cells = subst (λ (z : Memory). Heap c.cells z s₀.cells) (sym b.same) (record { list = heap.list; many = heap.many; fits = heap.fits; room = heap.room; content = heap.content });
+        cells = subst (λ (z : Memory). Heap z.store s₀.cells) (sym b.same) heap;
         shown = shown;
         turns = turns;
       }
@@ -196,7 +196,7 @@ module _ (g : Prog) (c : Control) (m : Memory) (d : ℕ) (p : Sig) (x f : ℕ) (
               fs = caller ∷ fs;
               is = stepped ∙ enter.is ∙ turn_on handed.t.left handed.t _ (c.turns - 1) (omega (arith, y.turns, nt));
               rep = opened_rep c₂ (with_left handed.t (c.turns - 1)) the_row the_few enter.fits given (omega (arith, two_frames, size, long₂)) next_vars
-                  (record { list = y.cells.list; many = y.cells.many; fits = y.cells.fits; room = y.cells.room; content = y.cells.content }) y.shown refl b
+                  y.cells y.shown refl b
                   z.procs z.few z.args (z.depth ∙ enter.depth) (omega (arith, z.room, enter.depth)) (caller ∷ fs) (omega (arith, z.total, enter.depth)) the_frames;
             }
 
@@ -241,4 +241,4 @@ module _ {c : Control} {m : Memory} (x f : ℕ) {at : ℕ} (ea : at ≡ c.pos) {
             rw o₁.here (call_going g c m d p x f v ss s fs h nz (got h) (rw q.here at below) (size ∙ sym q.long) (rw q.here at nt) b)
 
         pub call_kept : {c₃ : Control} {m₃ : Memory} → Opened c₂ m₂ f many c₃ m₃ → Kept c c₃
-        call_kept o = let e = o.here in kept_same (ap (λ (z : Control). z.out) e ∙ ap (λ (z : Control). z.out) here₂) (ap (λ (z : Control). z.shown) e ∙ ap (λ (z : Control). z.shown) here₂) (ap (λ (z : Control). z.count) e ∙ ap (λ (z : Control). z.count) here₂)
+        call_kept o = let e = o.here in kept_same (ap (λ (z : Control). z.output) e ∙ ap (λ (z : Control). z.output) here₂)

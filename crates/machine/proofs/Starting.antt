@@ -17,7 +17,7 @@ use Rattle.owned.proofs.TypingRules.{sound}
 use Rattle.machine.specs.declared.machine.Halt.{Halt}
 use Rattle.machine.specs.declared.machine.Halt.TheVariants.{Spent, Deep}
 use Rattle.machine.specs.Memory.{Control, Memory, with_turns, entered}
-use Rattle.machine.specs.Represents.{Heap, Shown}
+use Rattle.machine.specs.Represents.{Shown, Shows}
 use Rattle.machine.specs.Operations.{NoFault}
 use Rattle.machine.specs.Steps.{Kept}
 use Rattle.machine.specs.Calls.{Blanked, Opened}
@@ -79,16 +79,15 @@ module _ {g : Prog} {cells d turns k : ℕ} {c : Control} {m : Memory} (h : Star
     pub can_open : (8 ≤ length c.code.procs) × (0 < c.depth) × (c.base + 40 + get_or c.code.procs 1 0 ≤ length m.frames)
     can_open = (row.room, omega (arith, nz), omega (arith, row.many, few, two_frames))
 
-    shown_none : Shown c.over c.shown c.count []
-    shown_none = subst (λ b. Shown b c.shown c.count []) (sym h.over) (rw h.count refl, omega (arith, h.count))
+    shown_none : Shows c.output []
+    shown_none = subst (λ b. Shown b c.output.shown c.output.count []) (sym h.over) (rw h.count refl, omega (arith, h.count))
 
     begun : {m₃ : Memory} → (c.turns ≡ 0 → ⊥) → Blanked (c.base + 40) 0 (get_or c.code.procs 1 0) m m₃
         → Runs g k (entered (with_turns c (c.turns - 1)) 0 m.frames) m₃ (begins nz).e (begins nz).proc.sig (push (begins nz).proc.body []) (opening (begins nz).proc.sig [] (with_left (at_start cells turns) (c.turns - 1))) [] (run g cells d turns)
     begun {m₃} nt b =
-        let y = h.heap in
         record {
           rep = opened_rep (with_turns c (c.turns - 1)) {vs = []} (with_left (at_start cells turns) (c.turns - 1)) row few (omega arith) refl two_frames (record { room = omega (arith, two_frames); each = λ x l. absurd (omega arith) })
-              (subst (λ j. Heap j m (replicate cells free)) (sym h.cells) y) shown_none refl b
+              h.heap shown_none refl b
               h.linked (few_kinds g h.fine) (λ f q i. (sound g h.fine h.keeps f q i).shape.fits) (h.depth ∙ (begins nz).depth) (omega (arith, h.base, h.room, (begins nz).depth)) [] (omega (arith, h.small, (begins nz).depth)) (omega (arith, h.base));
           steps = subst (λ (z : Mach). strictly g k z ≡ stopped (run g cells d turns)) ((begins nz).is ∙ turn_on turns (at_start cells turns) _ (c.turns - 1) (omega (arith, h.turns, nt))) all_steps;
           well = well;
@@ -113,4 +112,4 @@ module _ {k : ℕ} {c : Control} {m : Memory} where
       run_end c₂ r out g cells d turns h = (rw o.here at out) g _ _ _ _ _ _ (begun h nz size nt o.blank)
 
 pub run_shown : {c : Control} {m : Memory} {c₁ c₂ : Control} {m₁ : Memory} → Opened (with_turns c (c.turns - 1)) m 0 0 c₁ m₁ → Kept c₁ c₂ → Kept c c₂
-run_shown o q = let e = o.here in kept_on (kept_same (ap (λ (z : Control). z.out) e) (ap (λ (z : Control). z.shown) e) (ap (λ (z : Control). z.count) e)) q
+run_shown o q = let e = o.here in kept_on (kept_same (ap (λ (z : Control). z.output) e)) q

@@ -41,10 +41,11 @@ pub record GoingOn (k : ℕ) (c : Control) (m : Memory) (k₁ : ℕ) (c₁ : Con
 pub kept_on : {c c₁ c₂ : Control} → Kept c c₁ → Kept c₁ c₂ → Kept c c₂
 kept_on {c} {c₁} {c₂} a b = record { out = b.out ∙ a.out; long = b.long ∙ a.long; more = omega (arith, a.more, b.more); past = b.past ∙ later }
   where
-    later : drop c₂.count c₁.shown ≡ drop c₂.count c.shown
+    later : drop c₂.output.count c₁.output.shown ≡ drop c₂.output.count c.output.shown
     later =
-        let z : c₁.count + (c₂.count - c₁.count) ≡ c₂.count = omega (arith, b.more) in
-        subst (λ i. drop i c₁.shown ≡ drop i c.shown) z (sym (drop-drop (c₂.count - c₁.count) c₁.count c₁.shown) ∙ ap (drop (c₂.count - c₁.count)) a.past ∙ drop-drop (c₂.count - c₁.count) c₁.count c.shown)
+        let n = c₂.output.count - c₁.output.count in
+        let z : c₁.output.count + n ≡ c₂.output.count = omega (arith, b.more) in
+        subst (λ i. drop i c₁.output.shown ≡ drop i c.output.shown) z (sym (drop-drop n c₁.output.count c₁.output.shown) ∙ ap (drop n) a.past ∙ drop-drop n c₁.output.count c.output.shown)
 
 module _ {g : Prog} {k : ℕ} {c : Control} {m : Memory} {r : R} (h : Still g k c m r) where
   next : (0 < k) × (strictly g (k - 1) (strict first_free g (going h.d h.p h.todo h.s h.fs)) ≡ stopped r)
@@ -67,7 +68,7 @@ module _ {k k₁ : ℕ} {c c₁ : Control} {m m₁ : Memory} (h : GoingOn k c m 
   pub run_step : CanRun k c m → CanAdvance c₁ m₁
   run_step w = let s = now w in record { prog = w.prog; depth = s.d; sig = s.p; todo = s.todo; state = s.s; callers = s.fs; steps = steps s }
 
-  pub run_again : {c₂ : Control} {m₂ : Memory} (q : ℕ) → Advanced c₁ m₁ c₂ m₂ (progress.Going q) → Kept c₁ c₂ → GoingOn k c m (k₁ - 1) c₂ m₂
+  pub run_again : {c₂ : Control} {m₂ : Memory} (q : ℕ) → Advanced c₁ m₁ c₂ m₂ (Ok (progress.Going q)) → Kept c₁ c₂ → GoingOn k c m (k₁ - 1) c₂ m₂
   run_again q st kp = record {
     carried = λ g d p ss s fs r o. (
         let u = h.carried g d p ss s fs r o in
@@ -76,13 +77,13 @@ module _ {k k₁ : ℕ} {c c₁ : Control} {m m₁ : Memory} (h : GoingOn k c m 
     kept = kept_on h.kept kp;
   }
 
-  pub run_done : (c₂ : Control) (m₂ : Memory) (w : ℕ) → Advanced c₁ m₁ c₂ m₂ (progress.Done w) → CameOut k c m c₂ (Ok w)
+  pub run_done : (c₂ : Control) (m₂ : Memory) (w : ℕ) → Advanced c₁ m₁ c₂ m₂ (Ok (progress.Done w)) → CameOut k c m c₂ (Ok w)
   run_done c₂ m₂ w st g d p ss s fs r q =
       let u = h.carried g d p ss s fs r q in
       let n = st g u.d u.p u.todo u.s u.fs (steps u) in
       subst (Done c₂ w) (sym (same_stop g (k₁ - 1) _ n.0 r (next u).1 n.1)) n.2
 
-  pub run_halt : (c₂ : Control) (m₂ : Memory) (f : Halt) → Advanced c₁ m₁ c₂ m₂ (progress.Stopped f) → CameOut k c m c₂ (Err f)
+  pub run_halt : (c₂ : Control) (m₂ : Memory) (f : Halt) → Advanced c₁ m₁ c₂ m₂ (Err f) → CameOut k c m c₂ (Err f)
   run_halt c₂ m₂ Full st g d p ss s fs r q = let u = h.carried g d p ss s fs r q in same_stop g (k₁ - 1) _ full r (next u).1 (st g u.d u.p u.todo u.s u.fs (steps u))
   run_halt c₂ m₂ Spent st g d p ss s fs r q = let u = h.carried g d p ss s fs r q in same_stop g (k₁ - 1) _ spent r (next u).1 (st g u.d u.p u.todo u.s u.fs (steps u))
   run_halt c₂ m₂ Deep st g d p ss s fs r q = let u = h.carried g d p ss s fs r q in same_stop g (k₁ - 1) _ deep r (next u).1 (st g u.d u.p u.todo u.s u.fs (steps u))

@@ -8,40 +8,40 @@ use Rattle.owned.specs.Runs.{first_free, Val, at, Cell, free, holds, St, R, fine
 use Rattle.owned.specs.Rows.{row_e}
 use Rattle.owned.specs.FreeList.{InUse}
 use Rattle.linker.specs.Code.{Code, AtE}
-use Rattle.machine.specs.Memory.{Control, Memory, shows}
+use Rattle.machine.specs.Memory.{Control, Store, Memory, with_output, shows}
 use Rattle.machine.specs.Represents.{Means, Heap, State}
 use Rattle.owned.specs.Strict.{freed, fetched, place, perform}
 
 -- a cell given back
-pub record CellFreed (cells : ℕ) (m : Memory) (a : ℕ) (m₁ : Memory) : Type 0 where
-  pub frames : m₁.frames ≡ m.frames
+pub record CellFreed (m : Store) (a : ℕ) (m₁ : Store) : Type 0 where
+  pub many : m₁.many ≡ m.many
   pub contents : m₁.contents ≡ m.contents
-  pub heap : (cs : List Cell) → Heap cells m cs → InUse cs a → Heap cells m₁ (slice_set cs a free)
+  pub heap : (cs : List Cell) → Heap m cs → InUse cs a → Heap m₁ (slice_set cs a free)
 
 -- a cell for a new box, whose word is the result
-pub record CellMade (cells : ℕ) (m : Memory) (w : ℕ) (m₁ : Memory) (x : ℕ) (cs : List Cell) (v : Val) : Type 0 where
+pub record CellMade (m : Store) (w : ℕ) (m₁ : Store) (x : ℕ) (cs : List Cell) (v : Val) : Type 0 where
   pub cell : ℕ
   pub word : x ≡ cell + 1
   pub chosen : first cs 0 ≡ Some cell
-  pub heap : (b : ℕ) → Heap cells m₁ (slice_set cs cell (holds b v))
+  pub heap : (b : ℕ) → Heap m₁ (slice_set cs cell (holds b v))
 
-abbrev pub Allocated : ℕ → Memory → ℕ → Memory → Option ℕ → Type 0
-Allocated cells m w m₁ None = (cs : List Cell) → Heap cells m cs → first cs 0 ≡ None
-Allocated cells m w m₁ (Some x) = (m₁.frames ≡ m.frames) × ((cs : List Cell) (v : Val) → Heap cells m cs → Means v w → CellMade cells m w m₁ x cs v)
+abbrev pub Allocated : Store → ℕ → Store → Option ℕ → Type 0
+Allocated m w m₁ None = (m₁ ≡ m) × ((cs : List Cell) → Heap m cs → first cs 0 ≡ None)
+Allocated m w m₁ (Some x) = (m₁.many ≡ m.many) × ((cs : List Cell) (v : Val) → Heap m cs → Means v w → CellMade m w m₁ x cs v)
 
 -- a value v of kind k given back, which leaves the cells ds
-pub record Releases (cells : ℕ) (m : Memory) (k w : ℕ) (v : Val) (cs ds : List Cell) : Type 0 where
-  pub heap : Heap cells m cs
+pub record Releases (m : Store) (k w : ℕ) (v : Val) (cs ds : List Cell) : Type 0 where
+  pub heap : Heap m cs
   pub means : Means v w
   pub freed : freed k v cs ≡ Some ds
 
-abbrev pub CanRelease : ℕ → Memory → ℕ → ℕ → Type 0
-CanRelease cells m k w = (v : Val) × (cs : List Cell) × (ds : List Cell) × Releases cells m k w v cs ds
+abbrev pub CanRelease : Store → ℕ → ℕ → Type 0
+CanRelease m k w = (v : Val) × (cs : List Cell) × (ds : List Cell) × Releases m k w v cs ds
 
-pub record Released (cells : ℕ) (m : Memory) (k w : ℕ) (m₁ : Memory) : Type 0 where
-  pub frames : m₁.frames ≡ m.frames
+pub record Released (m : Store) (k w : ℕ) (m₁ : Store) : Type 0 where
+  pub many : m₁.many ≡ m.many
   pub contents : m₁.contents ≡ m.contents
-  pub heap : (v : Val) (cs ds : List Cell) → Releases cells m k w v cs ds → Heap cells m₁ ds
+  pub heap : (v : Val) (cs ds : List Cell) → Releases m k w v cs ds → Heap m₁ ds
 
 -- a variable's value taken out
 pub record Takes (c : Control) (m : Memory) (x : ℕ) (p : Sig) (s : St) (v : Val) (t : St) : Type 0 where
@@ -149,7 +149,7 @@ pub record DidAt (c : Control) (m : Memory) (a : E → S) (i : ℕ) (c₁ : Cont
 -- a number shown, or one too many
 pub record Showed (c : Control) (m : Memory) (i : ℕ) (c₁ : Control) (m₁ : Memory) : Type 0 where
   pub word : ℕ
-  pub here : c₁ ≡ shows c word
+  pub here : c₁ ≡ with_output c (shows c.output word)
   pub same : m₁ ≡ m
   pub state : (p : Sig) (s : St) (r : R) (e : E) → Does c m (S.show e) p s r → ExprAt c.code e i → Ended c₁ m₁ p r
 

@@ -11,7 +11,7 @@ use Rattle.machine.specs.declared.machine.Halt.TheVariants.{Full, Spent, Deep}
 use Rattle.machine.specs.declared.machine.Progress.{Progress}
 use Rattle.machine.specs.declared.machine.Progress.TheVariants as progress
 use Rattle.machine.specs.Memory.{Control, Memory}
-use Rattle.machine.specs.Represents.{Heap, Shown, Represents}
+use Rattle.machine.specs.Represents.{Heap, Shows, Represents}
 use Rattle.owned.specs.Strict.{strict}
 use Rattle.machine.specs.Operations.{NoFault}
 use Rattle.machine.specs.Steps.{Going, After}
@@ -35,23 +35,23 @@ pub record Done (c : Control) (w : ℕ) (r : R) : Type 0 where
   pub end : St
   pub is : r ≡ fine end
   pub result : end.vars ≡ n w ∷ []
-  pub shown : Shown c.over c.shown c.count end.shown
+  pub shown : Shows c.output end.shown
   pub left : c.turns ≡ end.left
 
 -- what comes of a step: the run goes on, or is done, or stops
-abbrev pub ComesTo : Prog → Control → Memory → Mach → Progress → Type 0
-ComesTo g c m w (progress.Going q) = Going g c m w
-ComesTo g c m w (progress.Done k) = (r : R) × (w ≡ stopped r) × Done c k r
-ComesTo g c m w (progress.Stopped h) = After g c m w (Err h)
+abbrev pub ComesTo : Prog → Control → Memory → Mach → Result Progress Halt → Type 0
+ComesTo g c m w (Ok (progress.Going q)) = Going g c m w
+ComesTo g c m w (Ok (progress.Done k)) = (r : R) × (w ≡ stopped r) × Done c k r
+ComesTo g c m w (Err h) = After g c m w (Err h)
 
-abbrev pub Advanced : Control → Memory → Control → Memory → Progress → Type 0
+abbrev pub Advanced : Control → Memory → Control → Memory → Result Progress Halt → Type 0
 Advanced c m c₁ m₁ o = (g : Prog) (d : ℕ) (p : Sig) (ss : List S) (s : St) (fs : List Frame) → Steps g c m d p ss s fs → ComesTo g c₁ m₁ (strict first_free g (going d p ss s fs)) o
 
 -- where it goes on
-abbrev pub Onward : Control → Progress → Type 0
-Onward c (progress.Going q) = q ≡ c.pos
-Onward c (progress.Done k) = Unit {0}
-Onward c (progress.Stopped h) = Unit {0}
+abbrev pub Onward : Control → Result Progress Halt → Type 0
+Onward c (Ok (progress.Going q)) = q ≡ c.pos
+Onward c (Ok (progress.Done k)) = Unit {0}
+Onward c (Err h) = Unit {0}
 
 -- so many strict steps
 abbrev pub strictly : Prog → ℕ → Mach → Mach
@@ -93,10 +93,9 @@ pub record Starts (g : Prog) (a d t k : ℕ) (c : Control) (m : Memory) : Type 0
   pub depth : c.depth ≡ d
   pub small : d < 2 ^ 32
   pub turns : c.turns ≡ t
-  pub cells : c.cells ≡ a
-  pub heap : Heap a m (replicate a free)
-  pub count : c.count ≡ 0
-  pub over : c.over ≡ false
+  pub heap : Heap m.store (replicate a free)
+  pub count : c.output.count ≡ 0
+  pub over : c.output.over ≡ false
   pub room : 40 * (d + 1) ≤ c.size
   pub steps : t * suc (length (row_ps g)) + 1 ≤ k
 

@@ -58,10 +58,10 @@ Stepped A a c m c₁ m₁ r = (g : Prog) (d : ℕ) (p : Sig) (v : A) (ss : List 
 
 -- The numbers shown before stay, and so do the words past those shown.
 pub record Kept (c c₁ : Control) : Type 0 where
-  pub out : c₁.out ≡ c.out
-  pub long : length c₁.shown ≡ length c.shown
-  pub more : c.count ≤ c₁.count
-  pub past : drop c₁.count c₁.shown ≡ drop c₁.count c.shown
+  pub out : c₁.output.out ≡ c.output.out
+  pub long : length c₁.output.shown ≡ length c.output.shown
+  pub more : c.output.count ≤ c₁.output.count
+  pub past : drop c₁.output.count c₁.output.shown ≡ drop c₁.output.count c.output.shown
 
 -- any statement, an `if`, a `while`, and a call, by their parts
 abbrev pub any_s : S → S

@@ -14,7 +14,7 @@ impl<'a> Machine<'a> {
         ensures same { memory self.new ≡ memory self.old }
         ensures next { result ≡ (control self.new).pos }
     {
-        let next = self.follow[at] as usize;
+        let next = self.tables.follow[at] as usize;
         self.pos = next;
         next
     }
@@ -29,9 +29,9 @@ impl<'a> Machine<'a> {
     {
         let word = self.value(at + 1);
         let next = if word == 0 {
-            self.other[at] as usize
+            self.tables.other[at] as usize
         } else {
-            self.inner[at] as usize
+            self.tables.inner[at] as usize
         };
         self.pos = next;
         next
@@ -53,7 +53,7 @@ impl<'a> Machine<'a> {
             return Err(Halt::Spent);
         }
         self.turns -= 1;
-        let next = self.inner[at] as usize;
+        let next = self.tables.inner[at] as usize;
         self.pos = next;
         Ok(next)
     }

@@ -38,13 +38,9 @@ impl<'a> Machine<'a> {
         requires { CanPass (control self.old) (memory self.old) at many }
         ensures { Passed (control self.old) (memory self.old) at many (control self.new) (memory self.new) }
     {
-        let mut at = at;
-        let mut i: usize = 0;
-        while i < many as usize {
-            let word = self.argument(at);
+        for i in 0..many as usize {
+            let word = self.argument(at + 2 * i);
             self.store_next(i, word);
-            at += 2;
-            i += 1;
         }
     }
 
@@ -57,7 +53,7 @@ impl<'a> Machine<'a> {
         ensures suspended { memory self.new ≡ suspended (control self.old) (memory self.old) dest.0 }
     {
         let base = self.base;
-        let follow = self.follow[at];
+        let follow = self.tables.follow[at];
         let procedure = self.procedure;
         let frames = &mut *self.frames;
         frames[base + RESUME] = follow;
@@ -75,9 +71,9 @@ impl<'a> Machine<'a> {
         ensures next { result ≡ (control self.new).pos }
     {
         let row = PROC_WORDS * f as usize;
-        let next = self.procs[row + BODY] as usize;
+        let next = self.tables.procs[row + BODY] as usize;
         self.pos = next;
-        self.kinds = self.procs[row] as usize;
+        self.kinds = self.tables.procs[row] as usize;
         self.base += FRAME_WORDS;
         self.procedure = f;
         self.depth -= 1;
@@ -105,7 +101,7 @@ impl<'a> Machine<'a> {
         ensures opened { Opened (control self.old) (memory self.old) f given (control self.new) (memory self.new) }
         ensures next { result ≡ (control self.new).pos }
     {
-        let many = self.procs[PROC_WORDS * f as usize + MANY];
+        let many = self.tables.procs[PROC_WORDS * f as usize + MANY];
         let next = self.enter(f);
         self.blank(given, many);
         next

@@ -63,7 +63,7 @@ impl<'a> Machine<'a> {
             return;
         }
         let old = self.load(x);
-        self.release(kind, old);
+        self.cells.release(kind, old);
         self.store(x, word);
     }
 

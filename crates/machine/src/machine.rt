@@ -6,32 +6,30 @@ ghost use Rattle.machine.specs.Memory.{control, memory};
 ghost use Rattle.machine.specs.Steps.{CanStep, Stepped, Kept, Next, halted, any_s};
 ghost use Rattle.machine.specs.Running.{CanAdvance, Advanced, Onward, CanRun, CameOut, CanStart, Ran};
 
+use crate::cells::Cells;
 use crate::frames::FRAME_WORDS;
+use crate::tables::Tables;
 use owned::decode::{Statement, Transfer};
 use owned::names::Var;
 
-// The program with its tables, and lent memory.
+// A program that runs in lent memory: there is no heap, so boxes are cells by their numbers, and open procedures are
+// frames of words. `count` and `over` stand beside `shown`, and not in a struct with it: `shown` is lent for another
+// time than the rest, and a field that is a struct takes no borrow of another lifetime.
 #[derive(Drop)]
 pub struct Machine<'a> {
     pub rows: &'a [u32],
-    pub follow: &'a [u32],
-    pub inner: &'a [u32],
-    pub other: &'a [u32],
-    pub procs: &'a [u32],
-    pub contents: &'a mut [u32],
-    pub links: &'a mut [u32],
+    pub tables: Tables<'a>,
+    pub cells: Cells<'a>,
     pub frames: &'a mut [u32],
     pub shown: &'a mut [u32],
-    pub head: u32,
-    pub cells: u32,
+    pub count: usize,
+    pub over: bool,
     pub pos: usize,
     pub kinds: usize,
     pub base: usize,
     pub procedure: u32,
     pub depth: u32,
     pub turns: u64,
-    pub count: usize,
-    pub over: bool,
 }
 
 // Why a run stops before its end: no cell is free, no turn is left, or too many calls are open.
@@ -42,15 +40,15 @@ pub enum Halt {
     Deep,
 }
 
-// What a step comes to: the run goes on at this place, it is done and this is its result, or it stops before its end.
+// What a step comes to: the run goes on at this place, or it is done and this is its result.
 #[derive(Clone, Copy, Debug, PartialEq, Eq)]
 pub enum Progress {
     Going(usize),
     Done(u32),
-    Stopped(Halt),
 }
 
-// Who looks at the machine after each step after which a run goes on.
+// Who looks at the machine after each step after which a run goes on. A closure would ask of who runs a program that it
+// may be called, as the public entry points must not.
 pub trait Observer {
     fn see(&mut self, machine: &Machine<'_>);
 }
@@ -64,11 +62,10 @@ impl<'a> Machine<'a> {
         self.rows[at]
     }
 
-    // A statement with a destination and a source, at the machine's place.
+    // A statement with a destination and a source, at a place.
     fn between(&self, at: usize, what: Transfer) -> Statement
-        requires at { at ≡ (control self.now).pos }
-        requires room { (control self.now).pos + 2 < length (control self.now).code.rows }
-        ensures { result ≡ Between what (variable (slice_index (control self.now).code.rows ((control self.now).pos + 1))) (variable (slice_index (control self.now).code.rows ((control self.now).pos + 2))) }
+        requires { at + 2 < length (control self.now).code.rows }
+        ensures { result ≡ Between what (variable (slice_index (control self.now).code.rows (at + 1))) (variable (slice_index (control self.now).code.rows (at + 2))) }
     {
         let x = self.word(at + 1);
         let y = self.word(at + 2);
@@ -112,10 +109,10 @@ impl<'a> Machine<'a> {
                 self.set_number(x, at + 2);
                 Ok(self.proceed(at))
             }
-            Statement::Between(what, x, y) => match self.transfer(what, x, y) {
-                Ok(()) => Ok(self.proceed(at)),
-                Err(halt) => Err(halt),
-            },
+            Statement::Between(what, x, y) => {
+                self.transfer(what, x, y)?;
+                Ok(self.proceed(at))
+            }
             Statement::Drop(x) => {
                 self.drop_value(x);
                 Ok(self.proceed(at))
@@ -133,7 +130,7 @@ impl<'a> Machine<'a> {
     // One step of a run: the next statement, the end of a procedure that was called, or the end of the first. The
     // machine's place is handed from step to step, so that it stays in a register: a step need not load what the step
     // before it stored.
-    pub fn step(&mut self, at: usize) -> Progress
+    pub fn step(&mut self, at: usize) -> Result<Progress, Halt>
         requires at { at ≡ (control self.old).pos }
         requires can { CanAdvance (control self.old) (memory self.old) }
         ensures advanced { Advanced (control self.old) (memory self.old) (control self.new) (memory self.new) result }
@@ -141,16 +138,13 @@ impl<'a> Machine<'a> {
         ensures next { Onward (control self.new) result }
     {
         if at < self.rows.len() {
-            return match self.execute(at) {
-                Ok(next) => Progress::Going(next),
-                Err(halt) => Progress::Stopped(halt),
-            };
+            return Ok(Progress::Going(self.execute(at)?));
         }
         if self.base > FRAME_WORDS {
-            return Progress::Going(self.leave());
+            return Ok(Progress::Going(self.leave()));
         }
         self.finish();
-        Progress::Done(self.result())
+        Ok(Progress::Done(self.result()))
     }
 
     // Runs on, in so many steps at most. Gives the result, which is a number.
@@ -168,13 +162,12 @@ impl<'a> Machine<'a> {
         let mut left = budget;
         let mut at = at;
         loop {
-            match self.step(at) {
+            match self.step(at)? {
                 Progress::Going(next) => {
                     left -= 1;
                     at = next;
                 }
                 Progress::Done(result) => return Ok(result),
-                Progress::Stopped(halt) => return Err(halt),
             }
             observer.see(self);
         }

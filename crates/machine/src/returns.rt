@@ -15,17 +15,18 @@ impl<'a> Machine<'a> {
         ensures { Closed (control self.old) (memory self.old) (control self.new) (memory self.new) }
     {
         let row = PROC_WORDS * self.procedure as usize;
-        let many = self.procs[row + MANY];
-        let mut mask = self.procs[row + RELEASED];
-        let mut x: u32 = 0;
-        while x < many && mask > 0 {
+        let many = self.tables.procs[row + MANY];
+        let mut mask = self.tables.procs[row + RELEASED];
+        for x in 0..many {
+            if mask == 0 {
+                break;
+            }
             if mask % 2 == 1 {
                 let kind = self.kind_of(Var(x));
                 let word = self.load(Var(x));
-                self.release(kind, word);
+                self.cells.release(kind, word);
             }
             mask /= 2;
-            x += 1;
         }
     }
 
@@ -35,7 +36,7 @@ impl<'a> Machine<'a> {
         requires there { (control self.now).base + slice_index (control self.now).code.procs (8 * (control self.now).procedure + 2) < length (memory self.now).frames }
         ensures { result ≡ slice_index (memory self.now).frames ((control self.now).base + slice_index (control self.now).code.procs (8 * (control self.now).procedure + 2)) }
     {
-        let x = Var(self.procs[PROC_WORDS * self.procedure as usize + RESULT]);
+        let x = Var(self.tables.procs[PROC_WORDS * self.procedure as usize + RESULT]);
         self.load(x)
     }
 
@@ -54,7 +55,7 @@ impl<'a> Machine<'a> {
         self.base = base;
         self.pos = self.frames[base + RESUME] as usize;
         self.procedure = procedure;
-        self.kinds = self.procs[PROC_WORDS * procedure as usize] as usize;
+        self.kinds = self.tables.procs[PROC_WORDS * procedure as usize] as usize;
         self.depth += 1;
         Var(self.frames[base + DEST])
     }

@@ -62,7 +62,7 @@ impl<'a> Machine<'a> {
         requires operator { 2 ≤ slice_index (control self.now).code.rows at }
         ensures { Evaluated (control self.now) (memory self.now) at result }
     {
-        let right = self.inner[at] as usize;
+        let right = self.tables.inner[at] as usize;
         let a = if self.is_nested(at + 1) {
             self.nested(at + 1)
         } else {

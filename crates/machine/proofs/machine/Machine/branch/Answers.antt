@@ -18,6 +18,6 @@ returns c = record {
     | then-word-eq0 w ↦ rw (w.next-is, c.requires.at) (if_second (rw c.requires.at at c.value-word.ensures) w.if-word-eq0.true)
     | else-word-eq0 w ↦ rw (w.next-is, c.requires.at) (if_first (rw c.requires.at at c.value-word.ensures) w.if-word-eq0.false)
   ];
-  kept = kept_same refl refl refl;
+  kept = kept_same refl;
   next = refl;
 }

@@ -5,7 +5,7 @@ use Rattle.machine.proofs.Calling.{call_deep, call_can, call_spent, call_suspend
 use Rattle.machine.proofs.machine.Machine.call.Goals as goal
 
 pub returns-then-self-eq0 : goal.returns-then-self-eq0
-returns-then-self-eq0 c = record { stepped = call_deep c.args.dest.0 c.args.f c.requires.at c.requires.many c.if-self-eq0.true; kept = kept_same refl refl refl; next = tt }
+returns-then-self-eq0 c = record { stepped = call_deep c.args.dest.0 c.args.f c.requires.at c.requires.many c.if-self-eq0.true; kept = kept_same refl; next = tt }
 
 pub pass_arguments-requires : goal.pass_arguments-requires
 pass_arguments-requires c = call_can c.args.dest.0 c.args.f c.requires.at c.requires.many c.if-self-eq0.false refl c.requires.can
@@ -13,7 +13,7 @@ pass_arguments-requires c = call_can c.args.dest.0 c.args.f c.requires.at c.requ
 pub returns-then-self-eq0-2 : goal.returns-then-self-eq0-2
 returns-then-self-eq0-2 c = record {
   stepped = call_spent c.args.dest.0 c.args.f c.requires.at c.requires.many c.if-self-eq0.false refl c.pass_arguments.ensures c.if-self-eq0-2.true;
-  kept = kept_same (ap (λ (z : Control). z.out) c.pass_arguments.ensures.here) (ap (λ (z : Control). z.shown) c.pass_arguments.ensures.here) (ap (λ (z : Control). z.count) c.pass_arguments.ensures.here);
+  kept = kept_same (ap (λ (z : Control). z.output) c.pass_arguments.ensures.here);
   next = tt;
 }
 

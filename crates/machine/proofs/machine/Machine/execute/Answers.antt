@@ -1,7 +1,7 @@
 use Rattle.std.proofs.Common.{Some, Ok, refl, ap, ◌∙◌, inl, inr}
-use Rattle.machine.specs.Memory.{Control, control, memory}
+use Rattle.std.proofs.lemmas.Result.{err_from_is_err_and}
+use Rattle.machine.specs.Memory.{control, memory}
 use Rattle.machine.specs.Steps.{halted}
-use Rattle.machine.proofs.Branching.{kept_same}
 use Rattle.machine.proofs.Stepping.{if_can, if_done, while_can, while_done, call_can, call_many, call_done, on_kept, room_on, transfer_can, transfer_done, transfer_err, drop_can, drop_done, skip_done, no_pair, set_can, set_done, show_can, show_done, show_kept, show_room}
 use Rattle.machine.proofs.machine.Machine.execute.Goals as goal
 
@@ -42,15 +42,13 @@ returns-in-Skip c = record {
 pub returns-in-Set : goal.returns-in-Set
 returns-in-Set c = record { stepped = set_done c.in-Set.x c.in-Set.ensures (rw c.requires.at at c.set_number.ensures) c.proceed-in-Set.ensures.here c.proceed-in-Set.ensures.same; kept = on_kept c.set_number.ensures.here c.proceed-in-Set.ensures.here; next = c.proceed-in-Set.ensures.next }
 
-pub returns-in-Ok : goal.returns-in-Ok
-returns-in-Ok c = record { stepped = transfer_done c.in-Between.what c.in-Between.x c.in-Between.y c.in-Between.ensures c.in-Ok.ensures.done c.proceed-in-Ok.ensures.here c.proceed-in-Ok.ensures.same; kept = on_kept c.in-Ok.ensures.here c.proceed-in-Ok.ensures.here; next = c.proceed-in-Ok.ensures.next }
+pub returns-in_ok-transfer-in-Between-clause-stepped : goal.returns-in_ok-transfer-in-Between-clause-stepped
+returns-in_ok-transfer-in-Between-clause-stepped c = transfer_done c.in-Between.what c.in-Between.x c.in-Between.y c.in-Between.ensures c.in_ok-transfer-in-Between.ensures.done c.proceed-in-Between.ensures.here c.proceed-in-Between.ensures.same
 
-pub returns-in-Err : goal.returns-in-Err
-returns-in-Err c = record {
-  stepped = transfer_err c.in-Between.what c.in-Between.x c.in-Between.y (control c.transfer.new.self) (memory c.transfer.new.self) c.in-Err.halt c.in-Between.ensures c.in-Err.ensures.done;
-  kept = kept_same (ap (λ (z : Control). z.out) c.in-Err.ensures.here) (ap (λ (z : Control). z.shown) c.in-Err.ensures.here) (ap (λ (z : Control). z.count) c.in-Err.ensures.here);
-  next = tt;
-}
+pub returns-in_err-transfer-in-Between-clause-stepped : goal.returns-in_err-transfer-in-Between-clause-stepped
+returns-in_err-transfer-in-Between-clause-stepped c =
+    let p = err_from_is_err_and c.from_residual.result c.from_residual.ensures.1 in
+    rw (p.1, p.2) (transfer_err c.in-Between.what c.in-Between.x c.in-Between.y (control c.transfer.new.self) (memory c.transfer.new.self) c.in_err-transfer-in-Between.field-0.0 c.in-Between.ensures c.in_err-transfer-in-Between.ensures.done)
 
 pub returns-in-Drop : goal.returns-in-Drop
 returns-in-Drop c = record { stepped = drop_done c.in-Drop.x c.in-Drop.ensures c.drop_value.ensures c.proceed-in-Drop.ensures.here c.proceed-in-Drop.ensures.same; kept = on_kept c.drop_value.ensures.here c.proceed-in-Drop.ensures.here; next = c.proceed-in-Drop.ensures.next }

@@ -5,10 +5,10 @@ use Rattle.machine.proofs.Starting.{run_deep, run_spent, run_open, run_can, run_
 use Rattle.machine.proofs.machine.Machine.run.Goals as goal
 
 pub returns-then-self-eq0 : goal.returns-then-self-eq0
-returns-then-self-eq0 g c = record { came = run_deep c.if-self-eq0.true; kept = kept_same refl refl refl }
+returns-then-self-eq0 g c = record { came = run_deep c.if-self-eq0.true; kept = kept_same refl }
 
 pub returns-then-self-eq0-2 : goal.returns-then-self-eq0-2
-returns-then-self-eq0-2 g c = record { came = run_spent c.if-self-eq0.false c.if-self-eq0-2.true; kept = kept_same refl refl refl }
+returns-then-self-eq0-2 g c = record { came = run_spent c.if-self-eq0.false c.if-self-eq0-2.true; kept = kept_same refl }
 
 pub open-at-requires : goal.open-at-requires
 open-at-requires g c = let r = run_open c.if-self-eq0.false refl c.requires in record { row = r.0; deep = r.1; room = r.2 }

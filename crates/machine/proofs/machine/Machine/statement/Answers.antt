@@ -8,19 +8,19 @@ pub word-requires : goal.word-requires
 word-requires c = omega (arith, room_by c.requires.at c.requires.can 2 c.in-2.is (Set _) refl)
 
 pub between-requires : goal.between-requires
-between-requires c = record { at = c.requires.at; room = omega (arith, room_by c.requires.at c.requires.can 3 c.in-3.is (Between Box _ _) refl) }
+between-requires c = omega (arith, room_by c.requires.at c.requires.can 3 c.in-3.is (Between Box _ _) refl)
 
 pub between-requires-in-4 : goal.between-requires-in-4
-between-requires-in-4 c = record { at = c.requires.at; room = omega (arith, room_by c.requires.at c.requires.can 4 c.in-4.is (Between Unbox _ _) refl) }
+between-requires-in-4 c = omega (arith, room_by c.requires.at c.requires.can 4 c.in-4.is (Between Unbox _ _) refl)
 
 pub between-requires-in-5 : goal.between-requires-in-5
-between-requires-in-5 c = record { at = c.requires.at; room = omega (arith, room_by c.requires.at c.requires.can 5 c.in-5.is (Between Look _ _) refl) }
+between-requires-in-5 c = omega (arith, room_by c.requires.at c.requires.can 5 c.in-5.is (Between Look _ _) refl)
 
 pub between-requires-in-6 : goal.between-requires-in-6
-between-requires-in-6 c = record { at = c.requires.at; room = omega (arith, room_by c.requires.at c.requires.can 6 c.in-6.is (Between Fill _ _) refl) }
+between-requires-in-6 c = omega (arith, room_by c.requires.at c.requires.can 6 c.in-6.is (Between Fill _ _) refl)
 
 pub between-requires-in-7 : goal.between-requires-in-7
-between-requires-in-7 c = record { at = c.requires.at; room = omega (arith, room_by c.requires.at c.requires.can 7 c.in-7.is (Between Move _ _) refl) }
+between-requires-in-7 c = omega (arith, room_by c.requires.at c.requires.can 7 c.in-7.is (Between Move _ _) refl)
 
 pub word-requires-in-8 : goal.word-requires-in-8
 word-requires-in-8 c = omega (arith, room_by c.requires.at c.requires.can 8 c.in-8.is (Drop _) refl)

@@ -1,4 +1,5 @@
 use Rattle.std.proofs.Common.{arith}
+use Rattle.std.proofs.lemmas.Result.{err_from_is_err_and}
 use Rattle.machine.specs.Memory.{control, memory}
 use Rattle.machine.proofs.Advancing.{step_execute, executed_on, executed_halt, step_leave, left_on, step_finish, step_result, finished, finished_kept}
 use Rattle.machine.proofs.machine.Machine.step.Goals as goal
@@ -6,11 +7,13 @@ use Rattle.machine.proofs.machine.Machine.step.Goals as goal
 pub execute-requires : goal.execute-requires
 execute-requires c = record { at = c.requires.at; can = step_execute (omega arith) c.requires.can }
 
-pub returns-in-Ok : goal.returns-in-Ok
-returns-in-Ok c = record { advanced = executed_on (omega arith) c.in-Ok.next c.in-Ok.ensures.stepped; kept = c.in-Ok.ensures.kept; next = c.in-Ok.ensures.next }
+pub returns-then-at-self : goal.returns-then-at-self
+returns-then-at-self c = record { advanced = executed_on (omega arith) c.in_ok-execute.field-0 c.in_ok-execute.ensures.stepped; kept = c.in_ok-execute.ensures.kept; next = c.in_ok-execute.ensures.next }
 
-pub returns-in-Err : goal.returns-in-Err
-returns-in-Err c = record { advanced = executed_halt (omega arith) (control c.execute.new.self) (memory c.execute.new.self) c.in-Err.halt c.in-Err.ensures.stepped; kept = c.in-Err.ensures.kept; next = tt }
+pub returns-in_err-execute-clause-advanced : goal.returns-in_err-execute-clause-advanced
+returns-in_err-execute-clause-advanced c =
+    let p = err_from_is_err_and c.from_residual.result c.from_residual.ensures.1 in
+    rw (p.1, p.2) (executed_halt (omega arith) (control c.execute.new.self) (memory c.execute.new.self) c.in_err-execute.field-0.0 c.in_err-execute.ensures.stepped)
 
 pub leave-requires : goal.leave-requires
 leave-requires c = step_leave (omega arith) (omega arith) c.requires.can

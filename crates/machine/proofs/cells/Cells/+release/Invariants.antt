@@ -1,4 +1,4 @@
-use Rattle.machine.proofs.machine.Machine.+release.Given as goal
+use Rattle.machine.proofs.cells.Cells.+release.Given as goal
 
 abbrev pub decreases-release : goal.decreases-release
 decreases-release l = l.kind.0

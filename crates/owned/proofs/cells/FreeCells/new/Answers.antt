@@ -1,7 +1,7 @@
-use Rattle.std.proofs.Common.{◌+◌, ◌∙◌, arith, below_more}
+use Rattle.std.proofs.Common.{◌+◌, refl, ◌∙◌, arith, below_more}
 use Rattle.std.proofs.lemmas.List.{get_or-set_same, get_or-set_other, drop-set-lt}
 use Rattle.owned.proofs.FreeCells.{all_linked}
-use Rattle.owned.proofs.cells.link_all.Goals as goal
+use Rattle.owned.proofs.cells.FreeCells.new.Goals as goal
 
 pub loop-cell-preserved : goal.loop-cell-preserved
 loop-cell-preserved c = (
@@ -14,5 +14,6 @@ loop-cell-preserved c = (
 pub returns : goal.returns
 returns c = record {
   list = all_linked c.loop-cell.links c.args.cells (omega arith) (λ k h. c.loop-cell.invariant.0 k (omega arith));
+  many = refl;
   past = c.loop-cell.invariant.1;
 }
