@@ -8,16 +8,16 @@ use Rattle.owned.proofs.Chains.{T_and}
 use Rattle.owned.proofs.TypingRules.{rows_ok}
 use Rattle.owned.proofs.Stops.{machine_runs}
 use Rattle.owned.proofs.Safety.{nothing_left}
-use Rattle.interpreter.specs.declared.machine.Halt.{Halt}
-use Rattle.interpreter.specs.declared.machine.Halt.TheVariants.{Full, Spent, Deep}
+use Rattle.machine.specs.declared.machine.Halt.{Halt}
+use Rattle.machine.specs.declared.machine.Halt.TheVariants.{Full, Spent, Deep}
 use Rattle.interpreter.specs.declared.outcome.Ran.{Ran}
-use Rattle.interpreter.specs.Memory.{Control, Memory}
-use Rattle.interpreter.specs.Represents.{Shown}
-use Rattle.interpreter.specs.Steps.{Kept}
+use Rattle.machine.specs.Memory.{Control, Memory}
+use Rattle.machine.specs.Represents.{Shown}
+use Rattle.machine.specs.Steps.{Kept}
 use Rattle.linker.specs.Links.{LinkedAll}
-use Rattle.interpreter.specs.Running.{Starts, Came}
+use Rattle.machine.specs.Running.{Starts, Came}
 use Rattle.interpreter.specs.Going.{CanGo, Went, ended}
-use Rattle.interpreter.proofs.Words.{not_holds}
+use Rattle.machine.proofs.Words.{not_holds}
 
 -- the rows are not too many
 pub few_words : {s : List ℕ} {c d w : ℕ} → CanGo s c d w → length s ≤ 16384
@@ -29,8 +29,8 @@ no_content n a b v e =
     not_holds b v (sym (elim (cases_lt a n) [ inl l ↦ get_or-replicate n a free free l | inr l ↦ get_or_past (replicate n free) a free (omega (arith, length-replicate n free, l)) ]) ∙ e)
 
 module _ {s : List ℕ} {cells depth turns k w : ℕ} (h : CanGo s cells depth w) {c : Control} {m : Memory} where
-  pub starting : LinkedAll c.code → c.code.rows ≡ s → c.base ≡ 0 → c.depth ≡ depth → depth < 2 ^ 32 → c.turns ≡ turns → c.cells ≡ cells → FreeList m.links m.head (replicate cells free) → cells < 2 ^ 32 → cells ≤ length m.contents
-      → c.count ≡ 0 → c.over ≡ false → 40 * (depth + 1) ≤ c.size → turns * suc (length s) + 1 ≤ k → Starts h.prog cells depth turns k c m
+  pub starting : LinkedAll c.code → c.code.rows ≡ s → c.base ≡ 0 → c.depth ≡ depth → depth < 2 ^ 32 → c.turns ≡ turns → m.store.many ≡ cells → FreeList m.store.links m.store.head (replicate cells free) → cells < 2 ^ 32 → cells ≤ length m.store.contents
+      → c.output.count ≡ 0 → c.output.over ≡ false → 40 * (depth + 1) ≤ c.size → turns * suc (length s) + 1 ≤ k → Starts h.prog cells depth turns k c m
   starting l r b d sd t e f sc room n o size steps =
       record {
         fine = rows_ok s h.prog h.rows;
@@ -40,8 +40,7 @@ module _ {s : List ℕ} {cells depth turns k w : ℕ} (h : CanGo s cells depth w
         depth = d;
         small = sd;
         turns = t;
-        cells = e;
-        heap = record { list = f; many = length-replicate cells free; fits = sc; room = room; content = λ a x v q. no_content cells a x v q };
+        heap = record { list = f; many = length-replicate cells free ∙ sym e; fits = rw e sc; room = rw e room; content = λ a x v q. no_content cells a x v q };
         count = n;
         over = o;
         room = size;
@@ -54,13 +53,13 @@ enough_steps t n b e = let q : t * suc n ≡ b * (n + 1) = (λ i. sym e i * suc 
 
 -- what the machine says is what the run came to
 module _ {s : List ℕ} {cells depth w : ℕ} (turns : ℕ) (h : CanGo s cells depth w) (c c₁ : Control) where
-  pub told : (o : Result ℕ Halt) (b : Bool) → Came c₁ (run h.prog cells depth turns) o → Kept c c₁ → c₁.over ≡ b → Went s cells depth turns c.shown c₁.shown (ended o b c₁.count c₁.turns)
+  pub told : (o : Result ℕ Halt) (b : Bool) → Came c₁ (run h.prog cells depth turns) o → Kept c c₁ → c₁.output.over ≡ b → Went s cells depth turns c.output.shown c₁.output.shown (ended o b c₁.output.count c₁.turns)
   told (Ok x) true a q e =
-      let sh = subst (λ z. Shown z c₁.shown c₁.count a.end.shown) e a.shown in
+      let sh = subst (λ z. Shown z c₁.output.shown c₁.output.count a.end.shown) e a.shown in
       (refl, (h.prog, a.end, h.rows, h.keeps, a.is, omega (arith, sh.0, q.long)))
   told (Ok x) false a q e =
-      let sh = subst (λ z. Shown z c₁.shown c₁.count a.end.shown) e a.shown in
-      (refl, (h.prog, a.end, h.rows, h.keeps, a.is, a.result, omega (arith, length-take c₁.count c₁.shown, ap length sh.0, sh.1), a.left, nothing_left machine_runs s h.prog cells depth turns a.end h.rows h.keeps a.is, sh.0, q.past))
+      let sh = subst (λ z. Shown z c₁.output.shown c₁.output.count a.end.shown) e a.shown in
+      (refl, (h.prog, a.end, h.rows, h.keeps, a.is, a.result, omega (arith, length-take c₁.output.count c₁.output.shown, ap length sh.0, sh.1), a.left, nothing_left machine_runs s h.prog cells depth turns a.end h.rows h.keeps a.is, sh.0, q.past))
   told (Err Full) b a q e = (refl, (h.prog, h.rows, h.keeps, a))
   told (Err Spent) b a q e = (refl, (h.prog, h.rows, h.keeps, a))
   told (Err Deep) b a q e = (refl, (h.prog, h.rows, h.keeps, a))

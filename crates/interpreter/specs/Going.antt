@@ -5,8 +5,8 @@ use Rattle.owned.specs.Runs.{n, St, fine, full, spent, deep, run, used}
 use Rattle.owned.specs.Kept.{kept}
 use Rattle.owned.specs.Rows.{Rows}
 use Rattle.owned.specs.Says.{floor}
-use Rattle.interpreter.specs.declared.machine.Halt.{Halt}
-use Rattle.interpreter.specs.declared.machine.Halt.TheVariants.{Full, Spent, Deep}
+use Rattle.machine.specs.declared.machine.Halt.{Halt}
+use Rattle.machine.specs.declared.machine.Halt.TheVariants.{Full, Spent, Deep}
 use Rattle.interpreter.specs.declared.outcome.Ran.{Ran}
 use Rattle.interpreter.specs.declared.outcome.Ran.TheVariants as ran
 
@@ -47,12 +47,15 @@ abbrev pub Went : List ℕ → ℕ → ℕ → ℕ → List ℕ → List ℕ →
 Went s c d k o o' r = (is_run r ≡ true) × GoSays s c d k o o' r
 
 -- how an outcome is told
+abbrev pub stopped_by : Halt → Ran
+stopped_by Full = ran.Full
+stopped_by Spent = ran.Spent
+stopped_by Deep = ran.Deep
+
 abbrev pub ended : Result ℕ Halt → Bool → ℕ → ℕ → Ran
 ended (Ok w) true m l = ran.OutFull
 ended (Ok w) false m l = ran.Done w m l
-ended (Err Full) over m l = ran.Full
-ended (Err Spent) over m l = ran.Spent
-ended (Err Deep) over m l = ran.Deep
+ended (Err h) over m l = stopped_by h
 
 -- the word for each answer
 abbrev pub named : Ran → List ℕ

@@ -1,8 +1,2 @@
 -- What the contracts cite.
-pub mod Memory
-pub mod Represents
-pub mod Operations
-pub mod Steps
-pub mod Calls
-pub mod Running
 pub mod Going

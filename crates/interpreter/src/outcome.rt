@@ -1,11 +1,11 @@
 ghost use Rattle.std.specs.Prelude.{◌≡◌, ◌+◌, ◌*◌, ◌≤◌, length, nat_le};
-ghost use Rattle.interpreter.specs.Memory.{control};
-ghost use Rattle.interpreter.specs.Going.{GoPost, CanGo, Went, ended, named};
+ghost use Rattle.interpreter.specs.Going.{GoPost, CanGo, Went, stopped_by, ended, named};
 
-use crate::machine::{Halt, Machine, Observer, Unobserved};
 use linker::{PROC_WORDS, link};
-use owned::cells::link_all;
+use machine::{Cells, Halt, Machine, Observer, Tables};
+use owned::cells::FreeCells;
 use owned::{Judged, judge};
+use std::fmt;
 
 // How a run came out: the result, how many numbers were shown, the turns left; or why there is none.
 #[derive(Clone, Copy, Debug, PartialEq, Eq)]
@@ -38,6 +38,40 @@ impl Ran {
     }
 }
 
+impl From<Halt> for Ran {
+    ghost from_gives = { λ halt ran. ran ≡ stopped_by halt };
+
+    fn from(halt: Halt) -> Ran {
+        match halt {
+            Halt::Full => Ran::Full,
+            Halt::Spent => Ran::Spent,
+            Halt::Deep => Ran::Deep,
+        }
+    }
+}
+
+impl fmt::Display for Ran {
+    fn fmt<W: fmt::Write>(&self, f: &mut fmt::Formatter<W>) -> fmt::Result {
+        f.write_str(self.name())
+    }
+}
+
+// Nobody looks.
+#[derive(Drop)]
+struct Unobserved;
+
+impl Observer for Unobserved {
+    fn see(&mut self, _machine: &Machine<'_>) {}
+}
+
+// What a run may take: so many cells, so many calls open at once, and so many turns.
+#[derive(Clone, Copy)]
+struct Limits {
+    cells: u32,
+    depth: u32,
+    turns: u64,
+}
+
 // Words of the table of procedures, of which there are at most 64.
 const PROC_TABLE: usize = 64 * PROC_WORDS;
 
@@ -48,66 +82,64 @@ fn ending(outcome: Result<u32, Halt>, over: bool, count: usize, turns: u64) -> R
     match outcome {
         Ok(_) if over => Ran::OutFull,
         Ok(result) => Ran::Done(result, count, turns),
-        Err(Halt::Full) => Ran::Full,
-        Err(Halt::Spent) => Ran::Spent,
-        Err(Halt::Deep) => Ran::Deep,
+        Err(halt) => Ran::from(halt),
     }
 }
 
 // Runs a program that keeps the rules.
 fn run_kept<O: Observer>(
     program: &[u32],
-    cells: u32,
-    depth: u32,
-    turns: u64,
+    limits: Limits,
     shown: &mut [u32],
     work: &mut [u32],
     observer: &mut O,
 ) -> Ran
-    requires { CanGo program.now cells depth (length work.old) }
-    ensures { Went program.now cells depth turns shown.old shown.new result }
+    requires { CanGo program.now limits.cells limits.depth (length work.old) }
+    ensures { Went program.now limits.cells limits.depth limits.turns shown.old shown.new result }
 {
     let (follow, rest) = work.split_at_mut(program.len());
     let (inner, rest) = rest.split_at_mut(program.len());
     let (other, rest) = rest.split_at_mut(program.len());
     let (procs, rest) = rest.split_at_mut(PROC_TABLE);
-    let (contents, rest) = rest.split_at_mut(cells as usize);
-    let (links, frames) = rest.split_at_mut(cells as usize);
+    let (contents, rest) = rest.split_at_mut(limits.cells as usize);
+    let (links, frames) = rest.split_at_mut(limits.cells as usize);
     link(program, follow, inner, other, procs);
-    let head = link_all(links, cells);
-    let mut machine = Machine {
-        rows: program,
+    let tables = Tables {
         follow,
         inner,
         other,
         procs,
-        contents,
-        links,
+    };
+    let free = FreeCells::new(links, limits.cells);
+    let cells = Cells { contents, free };
+    let mut machine = Machine {
+        rows: program,
+        tables,
+        cells,
         frames,
         shown,
-        head,
-        cells,
+        count: 0,
+        over: false,
         pos: 0,
         kinds: 0,
         base: 0,
         procedure: 0,
-        depth,
-        turns,
-        count: 0,
-        over: false,
+        depth: limits.depth,
+        turns: limits.turns,
     };
-    let outcome = machine.run(
-        u128::from(turns) * (program.len() as u128 + 1) + 1,
-        observer,
-    );
-    ending(outcome, machine.over, machine.count, machine.turns)
+    let budget = u128::from(limits.turns) * (program.len() as u128 + 1) + 1;
+    let outcome = machine.run(budget, observer);
+    let ran = ending(outcome, machine.over, machine.count, machine.turns);
+    // The words for numbers shown go back to who lent them.
+    let _shown = machine.shown;
+    ran
 }
 
 // Whether there are enough work words: as judging wants, 2 for each cell and 512 for each open call.
-fn enough(words: usize, cells: u32, depth: u32, work: usize) -> bool
-    ensures { result ≡ nat_le (8192 + 4 * words + (2 * cells + 512 * depth)) work }
+fn enough(words: usize, limits: Limits, work: usize) -> bool
+    ensures { result ≡ nat_le (8192 + 4 * words + (2 * limits.cells + 512 * limits.depth)) work }
 {
-    let run = 8192 + 2 * cells as usize + 512 * depth as usize;
+    let run = 8192 + 2 * limits.cells as usize + 512 * limits.depth as usize;
     work >= run && (work - run) / 4 >= words
 }
 
@@ -137,11 +169,16 @@ pub fn go_observed<O: Observer>(
 ) -> Ran
     ensures { GoPost program.now cells depth turns shown.old shown.new (length work.old) result }
 {
-    if !enough(program.len(), cells, depth, work.len()) {
+    let limits = Limits {
+        cells,
+        depth,
+        turns,
+    };
+    if !enough(program.len(), limits, work.len()) {
         return Ran::Small;
     }
     match judge(program, work) {
-        Judged::Keeps => run_kept(program, cells, depth, turns, shown, work, observer),
+        Judged::Keeps => run_kept(program, limits, shown, work, observer),
         Judged::Careless => Ran::Unkept,
         Judged::NoProgram | Judged::Few => Ran::Unread,
     }

@@ -2,7 +2,7 @@
 use Rattle.std.proofs.Common.{◌≡◌, ℕ, ◌+◌, ◌<◌, ◌≤◌, List, [], ◌∷◌, length, get_or, set, ◌∙◌, arith, length-set}
 use Rattle.std.proofs.lemmas.List.{get_or-set_same, get_or-set_other}
 use Rattle.owned.specs.Machine.{Frame}
-use Rattle.owned.specs.Code.{Code}
+use Rattle.linker.specs.Code.{Code}
 use Rattle.machine.specs.Represents.{FrameAt, Frames}
 use Rattle.machine.proofs.Words.{vars_same}
 

@@ -1,15 +1,15 @@
 -- A call: its arguments are in the next frame, the caller's frame says how to come back, and the procedure is entered.
-use Rattle.std.proofs.Common.{◌≡◌, ℕ, zero, suc, ◌+◌, ◌-◌, ◌*◌, ◌<◌, ◌≤◌, Bool, true, false, cond, eqb, List, [], ◌∷◌, ◌++◌, length, get_or, take, drop, Some, None, Ok, Err, Option, sym, refl, ap, ◌∙◌, subst, arith, length-take, get_or-take}
+use Rattle.std.proofs.Common.{◌≡◌, ℕ, zero, suc, ◌+◌, ◌-◌, ◌*◌, ◌^◌, ◌<◌, ◌≤◌, Bool, true, false, cond, eqb, List, [], ◌∷◌, ◌++◌, length, get_or, take, drop, Some, None, Ok, Err, Option, sym, refl, ap, ◌∙◌, subst, arith, length-take, get_or-take}
 use Rattle.std.specs.List.{slice_get}
 use Rattle.std.proofs.lemmas.Bool.{eqb-true}
 use Rattle.owned.specs.Program.{Arg, S, Sig, Proc, Prog, kind}
 use Rattle.owned.specs.Rows.{row_as}
 use Rattle.owned.specs.Runs.{first_free, Val, St, fault, spent, deep, Took, took, missing, more, onto, with_left, opening}
 use Rattle.owned.specs.Machine.{Frame, Mach, going, stopped, push, turn_m, hand_m, enter_m}
-use Rattle.owned.specs.Code.{ProcAt}
+use Rattle.linker.specs.Code.{ProcAt}
 use Rattle.machine.specs.declared.machine.Halt.TheVariants.{Spent, Deep}
 use Rattle.machine.specs.Memory.{Control, Memory, with_turns, entered}
-use Rattle.machine.specs.Represents.{Vars, Heap, Shown, State, FrameAt, Frames, Context, Represents}
+use Rattle.machine.specs.Represents.{Vars, Heap, Shows, State, FrameAt, Frames, Represents}
 use Rattle.owned.specs.Strict.{pass_one, pass, enters, strict_s}
 use Rattle.machine.specs.Steps.{Going, Ready, CanStep, Stepped, Kept, call_s}
 use Rattle.machine.specs.Calls.{Passes, CanPass, Passed, suspended, Blanked, Opened}
@@ -58,8 +58,8 @@ entering g (suc e) f vs t fs well nz args = go (slice_get g f) refl well
 -- a procedure's first state, in memory: frames below it are given
 module _ (c : Control) {f : ℕ} {q : Proc} {vs : List Val} (s₀ : St) {m₂ m₃ : Memory} {n : ℕ}
     (row : ProcAt c.code f q) (few : length q.sig.kinds ≤ 32) (fits : length vs ≤ length q.sig.kinds) (en : n ≡ length vs)
-    (room : c.base + 80 ≤ length m₂.frames) (vars : Vars vs m₂.frames (c.base + 40)) (heap : Heap c.cells m₂ s₀.cells)
-    (shown : Shown c.over c.shown c.count s₀.shown) (turns : c.turns ≡ s₀.left)
+    (room : c.base + 80 ≤ length m₂.frames) (vars : Vars vs m₂.frames (c.base + 40)) (heap : Heap m₂.store s₀.cells)
+    (shown : Shows c.output s₀.shown) (turns : c.turns ≡ s₀.left)
     (b : Blanked (c.base + 40) n (get_or c.code.procs (8 * f + 1) 0) m₂ m₃) where
   pub opened_state : State (entered c f m₂.frames) m₃ q.sig (opening q.sig vs s₀)
   opened_state =
@@ -69,19 +69,20 @@ module _ (c : Control) {f : ℕ} {q : Proc} {vs : List Val} (s₀ : St) {m₂ m�
         few = few;
         vars = opened_vars vs q.sig.kinds (c.base + 40) _ m₂ m₃ fits row.many (omega (arith, room, few, row.many)) vars h;
         long = opened_long vs q.sig.kinds fits;
-        cells = subst (λ (z : Memory). Heap c.cells z s₀.cells) (sym b.same) (record { list = heap.list; many = heap.many; fits = heap.fits; room = heap.room; content = heap.content });
+        cells = subst (λ (z : Memory). Heap z.store s₀.cells) (sym b.same) heap;
         shown = shown;
         turns = turns;
       }
 
-  module _ {g : Prog} {e : ℕ} {fs : List Frame} (x : Context g c (suc e) fs) (fs₁ : List Frame) (k : length fs₁ ≤ suc (length fs)) (frames : Frames c.code (take (c.base + 40) m₂.frames) (c.base + 40) fs₁) (size : c.size ≡ length m₂.frames) where
+  module _ {g : Prog} {e : ℕ} (procs : (f : ℕ) (q : Proc) → slice_get g f ≡ Some q → ProcAt c.code f q) (all_few : (f : ℕ) (q : Proc) → slice_get g f ≡ Some q → length q.sig.kinds ≤ 32) (all_args : (f : ℕ) (q : Proc) → slice_get g f ≡ Some q → length q.sig.args ≤ length q.sig.kinds) (depth : c.depth ≡ suc e) (size : c.base + 40 * (suc e + 1) ≤ c.size)
+      (fs₁ : List Frame) (total : e + length fs₁ < 2 ^ 32) (frames : Frames c.code (take (c.base + 40) m₂.frames) (c.base + 40) fs₁) where
     pub opened_rep : Represents g (entered c f m₂.frames) m₃ e q.sig (push q.body []) (opening q.sig vs s₀) fs₁
     opened_rep = record {
       state = opened_state;
       pends = rw row.body.1 (entered_pends c.code q.body row.body.0 (length c.code.rows) [] row.body.2 refl);
       singles = push_singles q.body [] tt;
       row = (q.body, row);
-      context = record { procs = x.procs; few = x.few; args = x.args; frames = frames; depth = omega (arith, x.depth); room = omega (arith, x.room); below = omega (arith, length-take (c.base + 40) m₂.frames, room); total = omega (arith, x.total) };
+      context = record { procs = procs; few = all_few; args = all_args; frames = frames; depth = omega arith; room = omega arith; below = omega (arith, length-take (c.base + 40) m₂.frames, room); total = total };
     }
 
 module _ (g : Prog) (c : Control) (m : Memory) (d : ℕ) (p : Sig) (x f : ℕ) (bs : List Arg) (ss : List S) (s : St) (fs : List Frame) (h : Ready g c m d p (S.call x f bs) ss s fs) where
@@ -195,31 +196,31 @@ module _ (g : Prog) (c : Control) (m : Memory) (d : ℕ) (p : Sig) (x f : ℕ) (
               fs = caller ∷ fs;
               is = stepped ∙ enter.is ∙ turn_on handed.t.left handed.t _ (c.turns - 1) (omega (arith, y.turns, nt));
               rep = opened_rep c₂ (with_left handed.t (c.turns - 1)) the_row the_few enter.fits given (omega (arith, two_frames, size, long₂)) next_vars
-                  (record { list = y.cells.list; many = y.cells.many; fits = y.cells.fits; room = y.cells.room; content = y.cells.content }) y.shown refl b
-                  (record { procs = z.procs; few = z.few; args = z.args; frames = z.frames; depth = z.depth ∙ enter.depth; room = omega (arith, z.room, enter.depth); below = z.below; total = omega (arith, z.total, enter.depth) }) (caller ∷ fs) (omega arith) the_frames (omega (arith, size, long₂));
+                  y.cells y.shown refl b
+                  z.procs z.few z.args (z.depth ∙ enter.depth) (omega (arith, z.room, enter.depth)) (caller ∷ fs) (omega (arith, z.total, enter.depth)) the_frames;
             }
 
 -- the same, by what each part of the code says
-module _ {c : Control} {m : Memory} (x f : ℕ) {many : ℕ} (em : many ≡ get_or c.code.rows (c.pos + 3) 0) where
+module _ {c : Control} {m : Memory} (x f : ℕ) {at : ℕ} (ea : at ≡ c.pos) {many : ℕ} (em : many ≡ get_or c.code.rows (c.pos + 3) 0) where
   pub call_deep : c.depth ≡ 0 → Stepped (List Arg) (call_s x f) c m c m (Err Deep)
   call_deep z g d p v ss s fs h = too_deep g c m d p x f v ss s fs h z
 
   module _ (nz : c.depth ≡ 0 → ⊥) (size : c.size ≡ length m.frames) where
-    passes : {g : Prog} {d : ℕ} {p : Sig} {v : List Arg} {ss : List S} {s : St} {fs : List Frame} (h : Ready g c m d p (call_s x f v) ss s fs) → Passes c m (c.pos + 4) many p s v (handed g c m d p x f v ss s fs h).vs (handed g c m d p x f v ss s fs h).t
-    passes {g} {d} {p} {v} {ss} {s} {fs} h = rw em (call_passes g c m d p x f v ss s fs h)
+    passes : {g : Prog} {d : ℕ} {p : Sig} {v : List Arg} {ss : List S} {s : St} {fs : List Frame} (h : Ready g c m d p (call_s x f v) ss s fs) → Passes c m (at + 4) many p s v (handed g c m d p x f v ss s fs h).vs (handed g c m d p x f v ss s fs h).t
+    passes {g} {d} {p} {v} {ss} {s} {fs} h = rw (ea, em) (call_passes g c m d p x f v ss s fs h)
 
-    pub call_can : CanStep (List Arg) (call_s x f) c m → CanPass c m (c.pos + 4) many
+    pub call_can : CanStep (List Arg) (call_s x f) c m → CanPass c m (at + 4) many
     call_can k = record { sig = k.sig; before = k.state; args = k.parts; vals = _; after = _; passes = passes k.ready; room = rw em (pass_room k.prog c m k.depth k.sig x f k.parts k.rest k.state k.callers k.ready nz (length m.frames) (sym size)) }
 
-    module _ {c₁ : Control} {m₁ : Memory} (q : Passed c m (c.pos + 4) many c₁ m₁) where
+    module _ {c₁ : Control} {m₁ : Memory} (q : Passed c m (at + 4) many c₁ m₁) where
       got : {g : Prog} {d : ℕ} {p : Sig} {v : List Arg} {ss : List S} {s : St} {fs : List Frame} (h : Ready g c m d p (call_s x f v) ss s fs) → State c m₁ p (handed g c m d p x f v ss s fs h).t × Vars (handed g c m d p x f v ss s fs h).vs m₁.frames (c.base + 40)
       got {g} {d} {p} {v} {ss} {s} {fs} h = q.state p s v _ _ (passes h)
 
       pub call_spent : c₁.turns ≡ 0 → Stepped (List Arg) (call_s x f) c m c₁ m₁ (Err Spent)
       call_spent z g d p v ss s fs h = no_turns g c m d p x f v ss s fs h nz (got h) (rw q.here at z)
 
-      pub call_suspend : CanStep (List Arg) (call_s x f) c m → (c₁.base + 40 ≤ length m₁.frames) × (c₁.pos < length c₁.code.follow)
-      call_suspend k = rw q.here (omega (arith, two_frames k.prog c m k.depth k.sig x f k.parts k.rest k.state k.callers k.ready nz, size, q.long), k.room)
+      pub call_suspend : CanStep (List Arg) (call_s x f) c m → (at ≡ c₁.pos) × (c₁.base + 40 ≤ length m₁.frames) × (c₁.pos < length c₁.code.follow)
+      call_suspend k = rw q.here (ea, omega (arith, two_frames k.prog c m k.depth k.sig x f k.parts k.rest k.state k.callers k.ready nz, size, q.long), k.room)
 
       module _ {c₂ : Control} {m₂ : Memory} (e₂ : c₂ ≡ with_turns c₁ (c₁.turns - 1)) (f₂ : m₂ ≡ suspended c₁ m₁ x) where
         here₂ : c₂ ≡ with_turns c (c.turns - 1)
@@ -240,4 +241,4 @@ module _ {c : Control} {m : Memory} (x f : ℕ) {many : ℕ} (em : many ≡ get_
             rw o₁.here (call_going g c m d p x f v ss s fs h nz (got h) (rw q.here at below) (size ∙ sym q.long) (rw q.here at nt) b)
 
         pub call_kept : {c₃ : Control} {m₃ : Memory} → Opened c₂ m₂ f many c₃ m₃ → Kept c c₃
-        call_kept o = let e = o.here in kept_same (ap (λ (z : Control). z.out) e ∙ ap (λ (z : Control). z.out) here₂) (ap (λ (z : Control). z.shown) e ∙ ap (λ (z : Control). z.shown) here₂) (ap (λ (z : Control). z.count) e ∙ ap (λ (z : Control). z.count) here₂)
+        call_kept o = let e = o.here in kept_same (ap (λ (z : Control). z.output) e ∙ ap (λ (z : Control). z.output) here₂)

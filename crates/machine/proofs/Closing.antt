@@ -6,10 +6,10 @@ use Rattle.std.proofs.lemmas.Bool.{eq-eqb, ne_eqb, eqb-true, both_ways}
 use Rattle.owned.specs.Program.{Sig, kind}
 use Rattle.owned.specs.Kept.{is_num}
 use Rattle.owned.specs.VarSets.{bits}
-use Rattle.owned.specs.Code.{released}
+use Rattle.linker.specs.Code.{released}
 use Rattle.owned.specs.Runs.{Val, nothing, Cell, St, R, fine, bind, set_v, with_cells, stays}
 use Rattle.owned.proofs.Places.{nth_set_other}
-use Rattle.machine.specs.Memory.{Control, Memory}
+use Rattle.machine.specs.Memory.{Control, Store, Memory, with_store}
 use Rattle.machine.specs.Represents.{Means, Heap}
 use Rattle.owned.specs.Strict.{freed, or_fault, close_one, closes}
 use Rattle.machine.specs.Operations.{NoFault, Releases, CanRelease, Released}
@@ -18,9 +18,9 @@ use Rattle.machine.proofs.Words.{get_value, get_kind}
 use Rattle.owned.proofs.Places.{nth_lt}
 
 -- variables from x on are still to be given back
-pub record Rest (cells : ℕ) (m : Memory) (x mask : ℕ) (p : Sig) (s : St) (r : R) : Type 0 where
+pub record Rest (m : Store) (x mask : ℕ) (p : Sig) (s : St) (r : R) : Type 0 where
   pub mid : St
-  pub heap : Heap cells m mid.cells
+  pub heap : Heap m mid.cells
   pub closes : closes p x (drop x p.kinds) mid ≡ r
   pub shown : mid.shown ≡ s.shown
   pub left : mid.left ≡ s.left
@@ -42,14 +42,14 @@ next x mask p l e =
     let h : eqb (mask % 2) 1 ∷ bits (length p.kinds - (x + 1)) (mask / 2) ≡ (not (is_num p x) && not (stays p x)) ∷ released p (x + 1) (drop (x + 1) p.kinds) = rw (n, k) at e in
     record { kinds = k; bit = cc; bits = cc }
 
-module _ {cells : ℕ} {m : Memory} {x mask : ℕ} {p : Sig} {s : St} {r : R} (h : Rest cells m x mask p s r) (l : x < length p.kinds) (well : NoFault r) where
+module _ {m : Store} {x mask : ℕ} {p : Sig} {s : St} {r : R} (h : Rest m x mask p s r) (l : x < length p.kinds) (well : NoFault r) where
   the_next : Next x mask p
   the_next = next x mask p l h.bits
 
   begun : bind (close_one (stays p x) (kind p x) x h.mid) (λ t. closes p (x + 1) (drop (x + 1) p.kinds) t) ≡ r
   begun = rw the_next.kinds at h.closes
 
-  on : (m₁ : Memory) (t : St) → Heap cells m₁ t.cells → closes p (x + 1) (drop (x + 1) p.kinds) t ≡ r → t.shown ≡ h.mid.shown → t.left ≡ h.mid.left → ((y : ℕ) → (x + 1 ≤ y) ⊎ (stays p y ≡ true) → slice_get t.vars y ≡ slice_get h.mid.vars y) → Rest cells m₁ (x + 1) (mask / 2) p s r
+  on : (m₁ : Store) (t : St) → Heap m₁ t.cells → closes p (x + 1) (drop (x + 1) p.kinds) t ≡ r → t.shown ≡ h.mid.shown → t.left ≡ h.mid.left → ((y : ℕ) → (x + 1 ≤ y) ⊎ (stays p y ≡ true) → slice_get t.vars y ≡ slice_get h.mid.vars y) → Rest m₁ (x + 1) (mask / 2) p s r
   on m₁ t hp c es el v = record { mid = t; heap = hp; closes = c; shown = es ∙ h.shown; left = el ∙ h.left; later = λ y q. v y q ∙ h.later y (further y q); bits = the_next.bits; within = omega arith }
     where
       further : (y : ℕ) → (x + 1 ≤ y) ⊎ (stays p y ≡ true) → (x ≤ y) ⊎ (stays p y ≡ true)
@@ -62,7 +62,7 @@ module _ {cells : ℕ} {m : Memory} {x mask : ℕ} {p : Sig} {s : St} {r : R} (h
     pub left : List Cell
     pub there : slice_get h.mid.vars x ≡ Some old
     pub freed : freed (kind p x) old h.mid.cells ≡ Some left
-    pub go_on : (m₁ : Memory) → Heap cells m₁ left → Rest cells m₁ (x + 1) (mask / 2) p s r
+    pub go_on : (m₁ : Store) → Heap m₁ left → Rest m₁ (x + 1) (mask / 2) p s r
 
   given : stays p x ≡ false → Given
   given e = go (slice_get h.mid.vars x) refl (rw e at begun)
@@ -87,25 +87,25 @@ module _ {cells : ℕ} {m : Memory} {x mask : ℕ} {p : Sig} {s : St} {r : R} (h
       go true e true f = absurd (both_ways false refl f)
       go true e false f = absurd (both_ways false refl (rw e at f))
 
-  pub next_unmarked : (mask % 2 ≡ 1 → ⊥) → Rest cells m (x + 1) (mask / 2) p s r
+  pub next_unmarked : (mask % 2 ≡ 1 → ⊥) → Rest m (x + 1) (mask / 2) p s r
   next_unmarked ne = go (stays p x) refl (is_num p x) refl
     where
       number : (k : ℕ) → k ≡ 0 → (u : Val) (cs ds : List Cell) → freed k u cs ≡ Some ds → cs ≡ ds
       number zero z u cs ds f = cc
       number (suc k) z u cs ds f = absurd (omega arith)
 
-      go : (b : Bool) → stays p x ≡ b → (a : Bool) → is_num p x ≡ a → Rest cells m (x + 1) (mask / 2) p s r
+      go : (b : Bool) → stays p x ≡ b → (a : Bool) → is_num p x ≡ a → Rest m (x + 1) (mask / 2) p s r
       go true e a f = on m h.mid h.heap (rw e at begun) refl refl (λ y q. refl)
-      go false e true f = let t = given e in t.go_on m (subst (λ cs. Heap cells m cs) (number (kind p x) (eqb-true (kind p x) 0 f) t.old h.mid.cells t.left t.freed) h.heap)
+      go false e true f = let t = given e in t.go_on m (subst (λ cs. Heap m cs) (number (kind p x) (eqb-true (kind p x) 0 f) t.old h.mid.cells t.left t.freed) h.heap)
       go false e false f = absurd (both_ways (eqb (mask % 2) 1) (ne_eqb (mask % 2) 1 ne) (the_next.bit ∙ rw (e, f) refl))
 
 -- with no bit left, nothing more is given back
-idle : (n : ℕ) {cells : ℕ} {m : Memory} (x mask : ℕ) {p : Sig} {s : St} {r : R} → x + n ≡ length p.kinds → mask ≡ 0 → NoFault r → Rest cells m x mask p s r → Rest cells m (length p.kinds) 0 p s r
-idle zero {cells} {m} x mask {p} {s} {r} e z well h = let q : x ≡ length p.kinds = omega arith in subst (λ y. Rest cells m y 0 p s r) q (rw z at h)
-idle (suc n) {cells} {m} x mask {p} {s} {r} e z well h = idle n (x + 1) (mask / 2) (omega arith) (rw z refl) well (next_unmarked h (omega arith) well (λ q. omega (arith, q, ap (λ y. y % 2) z)))
+idle : (n : ℕ) {m : Store} (x mask : ℕ) {p : Sig} {s : St} {r : R} → x + n ≡ length p.kinds → mask ≡ 0 → NoFault r → Rest m x mask p s r → Rest m (length p.kinds) 0 p s r
+idle zero {m} x mask {p} {s} {r} e z well h = let q : x ≡ length p.kinds = omega arith in subst (λ y. Rest m y 0 p s r) q (rw z at h)
+idle (suc n) {m} x mask {p} {s} {r} e z well h = idle n (x + 1) (mask / 2) (omega arith) (rw z refl) well (next_unmarked h (omega arith) well (λ q. omega (arith, q, ap (λ y. y % 2) z)))
 
-ended : {cells : ℕ} {m : Memory} {x mask : ℕ} {p : Sig} {s : St} {r : R} → length p.kinds ≤ x → Rest cells m x mask p s r → ClosedTo cells m p s r
-ended {cells} {m} {x} {mask} {p} {s} {r} l h =
+ended : {m : Store} {x mask : ℕ} {p : Sig} {s : St} {r : R} → length p.kinds ≤ x → Rest m x mask p s r → ClosedTo m p s r
+ended {m} {x} {mask} {p} {s} {r} l h =
     let z : closes p x [] h.mid ≡ r = rw (drop_all x p.kinds l) at h.closes in
     record { end = h.mid; is = sym z; heap = h.heap; shown = h.shown; left = h.left; kept = λ y e. h.later y (inr e) }
 
@@ -113,7 +113,7 @@ ended {cells} {m} {x} {mask} {p} {s} {r} l h =
 pub record CloseSofar (c : Control) (m : Memory) (c₁ : Control) (m₁ : Memory) (x mask : ℕ) : Type 0 where
   pub here : c₁ ≡ c
   pub frames : m₁.frames ≡ m.frames
-  pub rest : (p : Sig) (s : St) (r : R) → Closes c m p s r → Rest c.cells m₁ x mask p s r
+  pub rest : (p : Sig) (s : St) (r : R) → Closes c m p s r → Rest m₁.store x mask p s r
 
 module _ {c : Control} {m : Memory} {many : ℕ} (em : many ≡ get_or c.code.procs (8 * c.procedure + 1) 0) where
   is_many : {p : Sig} {s : St} {r : R} → Closes c m p s r → many ≡ length p.kinds
@@ -126,7 +126,7 @@ module _ {c : Control} {m : Memory} {many : ℕ} (em : many ≡ get_or c.code.pr
     pub close_end : (many ≤ x) ⊎ (mask ≡ 0) → Closed c m c₁ m₁
     close_end z = record { here = h.here; frames = h.frames; end = λ p s r k. go p s r k z }
       where
-        go : (p : Sig) (s : St) (r : R) → Closes c m p s r → (many ≤ x) ⊎ (mask ≡ 0) → ClosedTo c.cells m₁ p s r
+        go : (p : Sig) (s : St) (r : R) → Closes c m p s r → (many ≤ x) ⊎ (mask ≡ 0) → ClosedTo m₁.store p s r
         go p s r k (inl l) = ended (omega (arith, l, is_many k)) (h.rest p s r k)
         go p s r k (inr q) = let t = h.rest p s r k in ended (omega arith) (idle (length p.kinds - x) x mask (omega (arith, t.within)) q k.well t)
 
@@ -157,20 +157,18 @@ module _ {c : Control} {m : Memory} {many : ℕ} (em : many ≡ get_or c.code.pr
         close_var k = rw (h.here, h.frames) (var k.closes).0
 
         module _ {kd w : ℕ} (ek : kd ≡ get_or c₁.code.rows (c₁.kinds + x) 0) (ew : w ≡ get_or m₁.frames (c₁.base + x) 0) where
-          releases : {p : Sig} {s : St} {r : R} (k : Closes c m p s r) → Releases c.cells m₁ kd w (marked k).old (h.rest p s r k).mid.cells (marked k).left
+          releases : {p : Sig} {s : St} {r : R} (k : Closes c m p s r) → Releases m₁.store kd w (marked k).old (h.rest p s r k).mid.cells (marked k).left
           releases {p} {s} {r} k =
               let a : kd ≡ kind p x = ek ∙ ap (λ (z : Control). get_or z.code.rows (z.kinds + x) 0) h.here ∙ (kinded k).1 in
               let b : w ≡ get_or m.frames (c.base + x) 0 = ew ∙ ap (λ (z : Control). get_or m₁.frames (z.base + x) 0) h.here ∙ ap (λ F. get_or F (c.base + x) 0) h.frames in
               record { heap = (h.rest p s r k).heap; means = rw b (var k).1; freed = rw a (marked k).freed }
 
-          pub close_release : CanClose c m → CanRelease c₁.cells m₁ kd w
-          close_release k = rw h.here (_, _, _, releases k.closes)
+          pub close_release : CanClose c m → CanRelease m₁.store kd w
+          close_release k = (_, _, _, releases k.closes)
 
-          pub close_marked : {c₂ : Control} {m₂ : Memory} → c₂ ≡ c₁ → Released c₁.cells m₁ kd w m₂ → CloseSofar c m c₂ m₂ (x + 1) (mask / 2)
-          close_marked {c₂} {m₂} e f = record {
-            here = e ∙ h.here;
-            frames = f.frames ∙ h.frames;
-            rest = λ p s r k. (
-                let g : Released c.cells m₁ kd w m₂ = subst (λ (z : Control). Released z.cells m₁ kd w m₂) h.here f in
-                (marked k).go_on m₂ (g.heap (marked k).old (h.rest p s r k).mid.cells (marked k).left (releases k)));
+          pub close_marked : {st : Store} → Released m₁.store kd w st → CloseSofar c m c₁ (with_store m₁ st) (x + 1) (mask / 2)
+          close_marked {st} f = record {
+            here = h.here;
+            frames = h.frames;
+            rest = λ p s r k. (marked k).go_on st (f.heap (marked k).old (h.rest p s r k).mid.cells (marked k).left (releases k));
           }

@@ -74,10 +74,10 @@ module _ {g : Prog} {c : Control} {m : Memory} {d : ℕ} {p : Sig} {a : S} {ss :
   pub known_code : get_or c.code.rows c.pos 0 ≤ 12
   known_code = rw (sym first_of) the_head.code
 
-module _ {c : Control} {m : Memory} (h : CanStep S any_s c m) where
+module _ {c : Control} {m : Memory} {at : ℕ} (i : at ≡ c.pos) (h : CanStep S any_s c m) where
   -- by the code, which is the first word
-  pub room_by : (k : ℕ) → get_or c.code.rows c.pos 0 ≡ k → (hd : Statement) → head_by k (get_or c.code.rows (c.pos + 1) 0) (get_or c.code.rows (c.pos + 2) 0) (get_or c.code.rows (c.pos + 3) 0) ≡ Some hd → c.pos + (head_shape hd).words ≤ length c.code.rows
-  room_by k e hd q = head_room h.ready (rw e q) h.here
+  pub room_by : (k : ℕ) → get_or c.code.rows at 0 ≡ k → (hd : Statement) → head_by k (get_or c.code.rows (c.pos + 1) 0) (get_or c.code.rows (c.pos + 2) 0) (get_or c.code.rows (c.pos + 3) 0) ≡ Some hd → c.pos + (head_shape hd).words ≤ length c.code.rows
+  room_by k e hd q = let f : get_or c.code.rows c.pos 0 ≡ k = rw i at e in head_room h.ready (rw f q) h.here
 
-  pub code_known : get_or c.code.rows c.pos 0 ≤ 12
-  code_known = known_code h.ready
+  pub code_known : get_or c.code.rows at 0 ≤ 12
+  code_known = rw i (known_code h.ready)

@@ -14,10 +14,6 @@ pub mod Closing
 pub mod Returning
 pub mod Heads
 pub mod Stepping
-pub mod Positions
-pub mod Stands
-pub mod Changes
-pub mod Marking
-pub mod Linking
-pub mod ReleaseSets
-pub mod Procedures
+pub mod Advancing
+pub mod WholeRuns
+pub mod Starting

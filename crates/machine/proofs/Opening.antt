@@ -1,40 +1,37 @@
 -- A procedure's frame as it begins: the arguments, the other variables 0.
-use Rattle.std.proofs.Common.{◌≡◌, ℕ, zero, suc, ◌+◌, ◌-◌, ◌*◌, ◌<◌, ◌≤◌, Bool, true, false, cond, eqb, ◌⊎◌, List, [], ◌∷◌, ◌++◌, length, get_or, drop, set, sym, refl, ap, ◌∙◌, subst, inl, inr, arith, length-append, length-drop, length-set}
+use Rattle.std.proofs.Common.{◌≡◌, ℕ, zero, suc, ◌+◌, ◌-◌, ◌*◌, ◌<◌, ◌≤◌, Bool, true, false, cond, eqb, ◌⊎◌, List, [], ◌∷◌, ◌++◌, length, get_or, take, drop, set, refl, ap, ◌∙◌, subst, inl, inr, arith, length-append, length-drop, length-set}
+use lib.Seq.{take-set-le}
 use Rattle.std.proofs.lemmas.List.{get_or-set_same, get_or-set_other, get_or_append_left, get_or-append_right}
 use Rattle.std.proofs.lemmas.Bool.{cases_eq}
 use Rattle.owned.specs.Runs.{Val, n, nothing, blank}
-use Rattle.machine.specs.Memory.{Control, Memory, set_word, with_frames, entered}
+use Rattle.machine.specs.Memory.{Control, Memory, with_frames, entered}
 use Rattle.machine.specs.Represents.{Means, Vars}
 use Rattle.machine.specs.Calls.{Blanked, Opened}
 
-pub blank_start : {b n : ℕ} {m : Memory} → Blanked b n n m m
-blank_start = record { same = refl; long = refl; kept = λ i l. refl; zeros = λ i l h. absurd (omega arith) }
+-- the words G are those of F, but for those from b + n on, which are 0 up to b + k; and maybe those between b and b + n
+pub record Zeroed (b n k : ℕ) (F G : List ℕ) : Type 0 where
+  pub long : length G ≡ length F
+  pub below : take b G ≡ take b F
+  pub kept : (i : ℕ) → i < n → get_or G (b + i) 0 ≡ get_or F (b + i) 0
+  pub zeros : (i : ℕ) → n ≤ i → i < k → get_or G (b + i) 0 ≡ 0
 
-module _ {b n k : ℕ} {m m₁ : Memory} (h : Blanked b n k m m₁) where
-  pub blank_room : {b₁ to : ℕ} → b₁ ≡ b → k < to → b + to ≤ length m.frames → b₁ + k < length m₁.frames
-  blank_room e l r = omega (arith, e, h.long)
+pub zeroed_none : {b n : ℕ} {F : List ℕ} → Zeroed b n n F F
+zeroed_none = record { long = refl; below = refl; kept = λ i l. refl; zeros = λ i l h. absurd (omega arith) }
 
-  pub blank_more : {b₁ to : ℕ} {m₂ : Memory} → b₁ ≡ b → m₂ ≡ set_word m₁ (b₁ + k) 0 → n ≤ k → k < to → b + to ≤ length m.frames → Blanked b n (k + 1) m m₂
-  blank_more {b₁} {to} {m₂} e f lo l r =
-      let g : m₂ ≡ set_word m₁ (b + k) 0 = f ∙ ap (λ z. set_word m₁ (z + k) 0) e in
-      let v : m₂.frames ≡ set m₁.frames (b + k) 0 = ap (λ (z : Memory). z.frames) g in
-      record {
-        same = g ∙ ap (λ (z : Memory). with_frames z (set m₁.frames (b + k) 0)) h.same ∙ ap (with_frames m) (sym v);
-        long = ap length v ∙ length-set m₁.frames (b + k) 0 ∙ h.long;
-        kept = λ i q. kept i q (cases_eq i k) v;
-        zeros = λ i q p. zeros i q p (cases_eq i k) v;
-      }
-    where
-      kept : (i : ℕ) → i < n → (i ≡ k) ⊎ (i ≡ k → ⊥) → m₂.frames ≡ set m₁.frames (b + k) 0 → get_or m₂.frames (b + i) 0 ≡ get_or m.frames (b + i) 0
-      kept i q (inl z) v = absurd (omega arith)
-      kept i q (inr ne) v = ap (λ F. get_or F (b + i) 0) v ∙ get_or-set_other m₁.frames (b + k) (b + i) 0 0 (λ z. ne (omega (arith, z))) ∙ h.kept i q
+pub zeroed_more : {b n k : ℕ} {F G : List ℕ} → n ≤ k → b + k < length F → Zeroed b n k F G → Zeroed b n (k + 1) F (set G (b + k) 0)
+zeroed_more {b} {n} {k} {F} {G} lo l h = record {
+  long = length-set G (b + k) 0 ∙ h.long;
+  below = take-set-le b G (b + k) 0 (omega arith) ∙ h.below;
+  kept = λ i q. get_or-set_other G (b + k) (b + i) 0 0 (λ z. omega (arith, z, q, lo)) ∙ h.kept i q;
+  zeros = λ i q p. zero i q p (cases_eq i k);
+}
+  where
+    zero : (i : ℕ) → n ≤ i → i < k + 1 → (i ≡ k) ⊎ (i ≡ k → ⊥) → get_or (set G (b + k) 0) (b + i) 0 ≡ 0
+    zero i q p (inl z) = rw z (get_or-set_same G (b + k) 0 0 (omega (arith, l, h.long)))
+    zero i q p (inr ne) = get_or-set_other G (b + k) (b + i) 0 0 (λ z. ne (omega (arith, z))) ∙ h.zeros i q (omega (arith, p, ne))
 
-      zeros : (i : ℕ) → n ≤ i → i < k + 1 → (i ≡ k) ⊎ (i ≡ k → ⊥) → m₂.frames ≡ set m₁.frames (b + k) 0 → get_or m₂.frames (b + i) 0 ≡ 0
-      zeros i q p (inl z) v = ap (λ F. get_or F (b + i) 0) v ∙ rw z (get_or-set_same m₁.frames (b + k) 0 0 (omega (arith, l, r, h.long)))
-      zeros i q p (inr ne) v = ap (λ F. get_or F (b + i) 0) v ∙ get_or-set_other m₁.frames (b + k) (b + i) 0 0 (λ z. ne (omega (arith, z))) ∙ h.zeros i q (omega arith)
-
-  pub blank_end : {to : ℕ} → to ≤ k → Blanked b n to m m₁
-  blank_end l = record { same = h.same; long = h.long; kept = h.kept; zeros = λ i q p. h.zeros i q (omega arith) }
+pub zeroed_all : {b n k to : ℕ} {m : Memory} {G : List ℕ} → to ≤ k → Zeroed b n k m.frames G → Blanked b n to m (with_frames m G)
+zeroed_all l h = record { same = refl; long = h.long; kept = h.kept; zeros = λ i q p. h.zeros i q (omega arith) }
 
 module _ (c : Control) {c₁ : Control} {m m₁ : Memory} (f : ℕ) (hc : c₁ ≡ entered c f m.frames) (hm : m₁ ≡ m) where
   pub open_room : c.base + 40 + get_or c.code.procs (8 * f + 1) 0 ≤ length m.frames → c₁.base + get_or c.code.procs (8 * f + 1) 0 ≤ length m₁.frames

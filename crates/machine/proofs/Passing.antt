@@ -81,7 +81,7 @@ splits c m i p s (a ∷ bs) vs t l st rest w g = first (pass_one a.lent (kind p 
 -- the state is the same where only words past the variables are written
 beyond_state : {c : Control} {m : Memory} {p : Sig} {s : St} (i w : ℕ) → State c m p s → State c (set_word m (c.base + 40 + i) w) p s
 beyond_state {c} {m} {p} {s} i w r =
-    record { kinds = r.kinds; few = r.few; vars = vars_same s.vars m.frames _ c.base (omega (arith, r.vars.room, length-set m.frames (c.base + 40 + i) w)) (λ x l. get_or-set_other m.frames (c.base + 40 + i) (c.base + x) w 0 (λ q. omega (arith, q, l, r.long, r.few))) r.vars; long = r.long; cells = record { list = r.cells.list; many = r.cells.many; fits = r.cells.fits; room = r.cells.room; content = r.cells.content }; shown = r.shown; turns = r.turns }
+    record { kinds = r.kinds; few = r.few; vars = vars_same s.vars m.frames _ c.base (omega (arith, r.vars.room, length-set m.frames (c.base + 40 + i) w)) (λ x l. get_or-set_other m.frames (c.base + 40 + i) (c.base + x) w 0 (λ q. omega (arith, q, l, r.long, r.few))) r.vars; long = r.long; cells = r.cells; shown = r.shown; turns = r.turns }
 
 -- one more value in words that follow one another
 vars_more : (vs : List Val) (v : Val) (ws : List ℕ) (b w : ℕ) → Vars vs ws b → Means v w → b + length vs < length ws → Vars (vs ++ (v ∷ [])) (set ws (b + length vs) w) b
@@ -114,8 +114,8 @@ pub record PassSofar (c : Control) (m : Memory) (i k : ℕ) (c₁ : Control) (m�
   pub long : length m₁.frames ≡ length m.frames
   pub rest : (p : Sig) (s : St) (bs : List Arg) (vs : List Val) (t : St) → Passes c m i k p s bs vs t → Rest c m₁ i₁ j k p vs t
 
-pub pass_start : {c : Control} {m : Memory} {i k : ℕ} → c.base + 40 ≤ length m.frames → PassSofar c m i k c m i 0
-pass_start l = record { here = refl; long = refl; rest = λ p s bs vs t g. record { mid = s; others = bs; done = []; us = vs; state = g.state; args = g.args; many = omega (arith, g.many); passes = g.passes; whole = refl; count = refl; words = record { room = omega arith; each = λ x h. absurd (omega arith) } } }
+pub pass_start : {c : Control} {m : Memory} {i i₁ k : ℕ} → i₁ ≡ i → c.base + 40 ≤ length m.frames → PassSofar c m i k c m i₁ 0
+pass_start e l = rw e (record { here = refl; long = refl; rest = λ p s bs vs t g. record { mid = s; others = bs; done = []; us = vs; state = g.state; args = g.args; many = omega (arith, g.many); passes = g.passes; whole = refl; count = refl; words = record { room = omega arith; each = λ x h. absurd (omega arith) } } })
 
 module _ {c : Control} {m : Memory} {i k : ℕ} {c₁ : Control} {m₁ : Memory} {i₁ j : ℕ} (h : PassSofar c m i k c₁ m₁ i₁ j) where
   pub pass_end : k ≤ j → Passed c m i k c₁ m₁
@@ -149,8 +149,8 @@ module _ {c : Control} {m : Memory} {i k : ℕ} {c₁ : Control} {m₁ : Memory}
       pub pass_store : CanPass c m i k → c₂.base + 40 + j < length m₂.frames
       pass_store n = rw (one.here ∙ h.here) (omega (arith, n.room, one.long, h.long))
 
-      pub pass_more : {c₃ : Control} {m₃ : Memory} → c₃ ≡ c₂ → m₃ ≡ set_word m₂ (c₂.base + 40 + j) w → CanPass c m i k → PassSofar c m i k c₃ m₃ (i₁ + 2) (j + 1)
-      pass_more {c₃} {m₃} e₃ f₃ n =
+      pub pass_more : {c₃ : Control} {m₃ : Memory} → c₃ ≡ c₂ → m₃ ≡ set_word m₂ (c₂.base + 40 + j) w → CanPass c m i k → {i₂ : ℕ} → i₂ ≡ i₁ + 2 → PassSofar c m i k c₃ m₃ i₂ (j + 1)
+      pass_more {c₃} {m₃} e₃ f₃ n {i₂} ei =
           let ec : c₂ ≡ c = one.here ∙ h.here in
           let o : PassedOne c m₁ (get_or c.code.rows i₁ 0) (get_or c.code.rows (i₁ + 1) 0) c₂ m₂ w = subst (λ (z : Control). PassedOne z m₁ (get_or z.code.rows i₁ 0) (get_or z.code.rows (i₁ + 1) 0) c₂ m₂ w) h.here one in
           let em : m₃ ≡ set_word m₂ (c.base + 40 + j) w = f₃ ∙ ap (λ (z : Control). set_word m₂ (z.base + 40 + j) w) ec in
@@ -169,7 +169,7 @@ module _ {c : Control} {m : Memory} {i k : ℕ} {c₁ : Control} {m₁ : Memory}
                   done = r.done ++ (q.v ∷ []);
                   us = q.us;
                   state = rw em (beyond_state j w u.0);
-                  args = q.args;
+                  args = rw ei q.args;
                   many = omega (arith, r.many, q.many);
                   passes = q.passes;
                   whole = r.whole ∙ ap (λ z. r.done ++ z) q.is ∙ sym (append_assoc r.done (q.v ∷ []) q.us);

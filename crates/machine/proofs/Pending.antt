@@ -5,9 +5,8 @@ use Rattle.std.proofs.lemmas.Bool.{both_ways}
 use Rattle.owned.specs.Program.{E, S}
 use Rattle.owned.specs.Rows.{row_e, row_s}
 use Rattle.owned.specs.Machine.{push}
-use Rattle.owned.specs.Code.{Code, entry, Here, At, Pends}
+use Rattle.linker.specs.Code.{Code, entry, Here, At, Pends}
 use Rattle.machine.specs.Represents.{single, Singles}
-use Rattle.machine.specs.Operations.{ExprAt}
 use Rattle.machine.proofs.Evaluating.{drop_past, word_here}
 
 pub entered_pends : (c : Code) (a : S) (q r : ℕ) (ss : List S) → At c a q r → Pends c r ss → Pends c (entry a q) (push a ss)
@@ -57,7 +56,7 @@ stands c (S.call x f as₁) q r e h = h
 stands c (S.show x) q r e h = h
 
 -- the expression after one word
-pub expr_next : (c : Code) (q o : ℕ) (e : E) (xs rest : List ℕ) → drop q c.rows ≡ o ∷ ((row_e e ++ xs) ++ rest) → ExprAt c.rows e (q + 1)
+pub expr_next : (c : Code) (q o : ℕ) (e : E) (xs rest : List ℕ) → drop q c.rows ≡ o ∷ ((row_e e ++ xs) ++ rest) → (us : List ℕ) × (drop (q + 1) c.rows ≡ row_e e ++ us)
 expr_next c q o e xs rest h = (xs ++ rest, drop_past q c.rows (o ∷ []) _ h ∙ append_assoc (row_e e) xs rest)
 
 pub first_word : (c : Code) (a : S) (q r : ℕ) → Here c a q r → q < length c.rows

@@ -2,85 +2,88 @@
 use Rattle.std.proofs.Common.{◌≡◌, ℕ, zero, suc, ◌+◌, ◌-◌, ◌<◌, Bool, true, false, cond, eqb, ◌⊎◌, List, length, get_or, set, Some, None, Option, sym, refl, ◌∙◌, subst, inl, inr, arith, length-set}
 use Rattle.std.proofs.lemmas.List.{get_or-set_same, get_or-set_other}
 use Rattle.std.proofs.lemmas.Bool.{cases_eq}
-use Rattle.owned.specs.Runs.{Val, n, at, nothing, Cell, free, holds}
+use Rattle.owned.specs.Runs.{Val, n, at, nothing, Cell, free, holds, first}
 use Rattle.owned.specs.FreeList.{FreeList, InUse, GivenBack, FirstFree}
-use Rattle.owned.specs.declared.cells.Taken.{Taken}
 use Rattle.owned.proofs.Places.{none_some}
-use Rattle.machine.specs.Memory.{Memory, with_list, set_content}
+use Rattle.machine.specs.Memory.{Store}
 use Rattle.machine.specs.Represents.{Means, Heap}
 use Rattle.owned.specs.Strict.{opened_by, closed, freed}
 use Rattle.machine.specs.Operations.{CellFreed, Allocated, Releases, CanRelease, Released}
 use Rattle.machine.proofs.Words.{in_use_there, not_holds, content_set}
 
 -- a cell given back: the others hold what they held
-pub cell_freed : {k : ℕ} {m : Memory} {a h : ℕ} {l : List ℕ} → ((cs : List Cell) → FreeList m.links m.head cs → InUse cs a → GivenBack m.links l h cs a) → CellFreed k m a (with_list m l h)
-cell_freed {k} {m} {a} {h} {l} g = record { frames = refl; contents = refl; heap = λ cs r u. record { list = (g cs r.list u).list; many = length-set cs a free ∙ r.many; fits = r.fits; room = r.room; content = λ i b v e. still cs r u i b v e (cases_eq i a) } }
+pub cell_freed : {m : Store} {a k h : ℕ} {l : List ℕ} → k ≡ m.many → ((cs : List Cell) → FreeList m.links m.head cs → InUse cs a → GivenBack m.links l h cs a) → CellFreed m a (record { many = k; contents = m.contents; links = l; head = h })
+cell_freed {m} {a} {k} {h} {l} e g = record { many = e; contents = refl; heap = λ cs r u. record { list = (g cs r.list u).list; many = length-set cs a free ∙ r.many ∙ sym e; fits = rw e r.fits; room = rw e r.room; content = λ i b v e. still cs r u i b v e (cases_eq i a) } }
   where
-    still : (cs : List Cell) → Heap k m cs → InUse cs a → (i b : ℕ) (v : Val) → get_or (set cs a free) i free ≡ holds b v → (i ≡ a) ⊎ (i ≡ a → ⊥) → Means v (get_or m.contents i 0)
+    still : (cs : List Cell) → Heap m cs → InUse cs a → (i b : ℕ) (v : Val) → get_or (set cs a free) i free ≡ holds b v → (i ≡ a) ⊎ (i ≡ a → ⊥) → Means v (get_or m.contents i 0)
     still cs r (b', v', eu) i b v e (inl q) = not_holds b v (sym (get_or-set_same cs a free free (in_use_there cs a b' v' eu)) ∙ rw q at e)
     still cs r u i b v e (inr ne) = r.content i b v (sym (get_or-set_other cs a i free free ne) ∙ e)
 
 -- a cell taken
-pub cell_made : {k : ℕ} {m : Memory} {w : ℕ} {t : Taken} → ((cs : List Cell) → Heap k m cs → FirstFree m.links cs t) → Allocated k m w (with_list (set_content m t.cell.0 w) m.links t.rest) (Some (t.cell.0 + 1))
-cell_made {k} {m} {w} {t} g = (
-  refl,
-  λ cs v r me. let f = g cs r in record {
-    cell = t.cell.0;
+pub cell_made : {m : Store} {w a k h : ℕ} {l : List ℕ} → k ≡ m.many → ((cs : List Cell) → FreeList m.links m.head cs → length cs ≡ m.many → FirstFree l h cs a) → Allocated m w (record { many = k; contents = set m.contents a w; links = l; head = h }) (Some (a + 1))
+cell_made {m} {w} {a} {k} {h} {l} e g = (
+  e,
+  λ cs v r me. let f = g cs r.list r.many in record {
+    cell = a;
     word = refl;
     chosen = f.chosen;
     heap = λ b. record {
       list = f.left b v;
-      many = length-set cs t.cell.0 (holds b v) ∙ r.many;
-      fits = r.fits;
-      room = omega (arith, r.room, length-set m.contents t.cell.0 w);
-      content = content_set m.contents cs t.cell.0 b v w f.within (omega (arith, f.within, r.many, r.room)) me r.content;
+      many = length-set cs a (holds b v) ∙ r.many ∙ sym e;
+      fits = rw e r.fits;
+      room = omega (arith, e, r.room, length-set m.contents a w);
+      content = content_set m.contents cs a b v w f.within (omega (arith, f.within, r.many, r.room)) me r.content;
     };
   },
 )
 
+-- none is free, and nothing changes
+pub none_made : {m : Store} (w : ℕ) {k h : ℕ} {l : List ℕ} → k ≡ m.many → l ≡ m.links → ((cs : List Cell) → FreeList m.links m.head cs → length cs ≡ m.many → (first cs 0 ≡ None) × (h ≡ m.head)) → (cs : List Cell) → Heap m cs → Allocated m w (record { many = k; contents = m.contents; links = l; head = h }) None
+none_made w ek el g ds s = (rw (ek, el, (g ds s.list s.many).1) refl, λ cs r. (g cs r.list r.many).0)
+
 -- a box that is given back: what is in it first, and then its cell, which is still its own
-pub record Opened (cells : ℕ) (m : Memory) (k w : ℕ) (cs ds : List Cell) : Type 0 where
+pub record Opened (m : Store) (k w : ℕ) (cs ds : List Cell) : Type 0 where
   pub inside : Val
   pub room : w - 1 < length m.contents
   pub left : List Cell
-  pub inner : Releases cells m (k - 1) (get_or m.contents (w - 1) 0) inside cs left
+  pub inner : Releases m (k - 1) (get_or m.contents (w - 1) 0) inside cs left
   pub still : InUse left (w - 1)
   pub end : set left (w - 1) free ≡ ds
 
-pub opens : {cells : ℕ} {m : Memory} {k w : ℕ} {v : Val} {cs ds : List Cell} → 0 < k → 0 < w → Releases cells m k w v cs ds → Opened cells m k w cs ds
-opens {cells} {m} {k} {w} {v} {cs} {ds} lk lw r = go k refl v lk r.means r.freed
+pub opens : {m : Store} {k w : ℕ} {v : Val} {cs ds : List Cell} → 0 < k → 0 < w → Releases m k w v cs ds → Opened m k w cs ds
+opens {m} {k} {w} {v} {cs} {ds} lk lw r = go k refl v lk r.means r.freed
   where
-    last : (a b : ℕ) → w - 1 ≡ a → (u : Val) → w - 1 < length m.contents → (es : List Cell) → Releases cells m (k - 1) (get_or m.contents (w - 1) 0) u cs es → (c : Cell) → get_or es a free ≡ c → opened_by b c (λ z. Some (set es a free)) ≡ Some ds → Opened cells m k w cs ds
+    last : (a b : ℕ) → w - 1 ≡ a → (u : Val) → w - 1 < length m.contents → (es : List Cell) → Releases m (k - 1) (get_or m.contents (w - 1) 0) u cs es → (c : Cell) → get_or es a free ≡ c → opened_by b c (λ z. Some (set es a free)) ≡ Some ds → Opened m k w cs ds
     last a b z u l es i free e f = none_some ds f
     last a b z u l es i (holds x v') e f = same (eqb b x) f
       where
-        same : (q : Bool) → cond q (Some (set es a free)) None ≡ Some ds → Opened cells m k w cs ds
+        same : (q : Bool) → cond q (Some (set es a free)) None ≡ Some ds → Opened m k w cs ds
         same false f = none_some ds f
         same true f = record { inside = u; room = l; left = es; inner = i; still = (x, v', rw z e); end = cc }
 
-    inner : (j a b : ℕ) → k - 1 ≡ j → w - 1 ≡ a → (u : Val) → Means u (get_or m.contents a 0) → w - 1 < length m.contents → (o : Option (List Cell)) → freed j u cs ≡ o → closed a b o ≡ Some ds → Opened cells m k w cs ds
+    inner : (j a b : ℕ) → k - 1 ≡ j → w - 1 ≡ a → (u : Val) → Means u (get_or m.contents a 0) → w - 1 < length m.contents → (o : Option (List Cell)) → freed j u cs ≡ o → closed a b o ≡ Some ds → Opened m k w cs ds
     inner j a b ej z u me l None e f = none_some ds f
     inner j a b ej z u me l (Some es) e f = last a b z u l es (record { heap = r.heap; means = rw z me; freed = rw ej e }) (get_or es a free) refl f
 
-    found : (j a b : ℕ) → k - 1 ≡ j → w ≡ a + 1 → (c : Cell) → get_or cs a free ≡ c → opened_by b c (λ u. closed a b (freed j u cs)) ≡ Some ds → Opened cells m k w cs ds
+    found : (j a b : ℕ) → k - 1 ≡ j → w ≡ a + 1 → (c : Cell) → get_or cs a free ≡ c → opened_by b c (λ u. closed a b (freed j u cs)) ≡ Some ds → Opened m k w cs ds
     found j a b ej ea free e f = none_some ds f
     found j a b ej ea (holds x u) e f = same (eqb b x) f
       where
-        same : (q : Bool) → cond q (closed a b (freed j u cs)) None ≡ Some ds → Opened cells m k w cs ds
+        same : (q : Bool) → cond q (closed a b (freed j u cs)) None ≡ Some ds → Opened m k w cs ds
         same false f = none_some ds f
         same true f =
             let l = in_use_there cs a x u e in
             inner j a b ej (omega arith) u (r.heap.content a x u e) (omega (arith, l, r.heap.many, r.heap.room)) (freed j u cs) refl f
 
-    go : (i : ℕ) → k ≡ i → (v : Val) → 0 < i → Means v w → freed i v cs ≡ Some ds → Opened cells m k w cs ds
+    go : (i : ℕ) → k ≡ i → (v : Val) → 0 < i → Means v w → freed i v cs ≡ Some ds → Opened m k w cs ds
     go zero ek v l me f = absurd (omega arith)
     go (suc i) ek (n x) l me f = none_some ds f
     go (suc i) ek nothing l me f = absurd (omega arith)
     go (suc i) ek (at a b) l me f = found i a b (omega arith) me (get_or cs a free) refl f
 
 -- nothing to give back
-pub nothing_held : {cells : ℕ} {m : Memory} {k w : ℕ} → (0 < k → 0 < w → ⊥) → Released cells m k w m
-nothing_held {cells} {m} {k} {w} z = record { frames = refl; contents = refl; heap = λ v cs ds r. subst (λ es. Heap cells m es) (same k w v cs ds z r.means r.freed) r.heap }
+pub nothing_held : {m : Store} {k w : ℕ} → (0 < k → 0 < w → ⊥) → Released m k w m
+nothing_held {m} {k} {w} z = record { many = refl; contents = refl; heap = λ v cs ds r. subst (λ es. Heap m es) (same k w v cs ds z r.means r.freed) r.heap }
   where
     same : (k w : ℕ) (u : Val) (es ds : List Cell) → (0 < k → 0 < w → ⊥) → Means u w → freed k u es ≡ Some ds → es ≡ ds
     same zero w u es ds z me f = cc
@@ -89,20 +92,20 @@ nothing_held {cells} {m} {k} {w} z = record { frames = refl; contents = refl; he
     same (suc k) w (at a b) es ds z me f = absurd (z (omega arith) (omega arith))
 
 -- a box: its content can be read and given back, then its cell, and that is all
-module _ {cells : ℕ} {m : Memory} {k w : ℕ} (lk : 0 < k) (lw : 0 < w) where
-  pub content_there : CanRelease cells m k w → w - 1 < length m.contents
+module _ {m : Store} {k w : ℕ} (lk : 0 < k) (lw : 0 < w) where
+  pub content_there : CanRelease m k w → w - 1 < length m.contents
   content_there (v, cs, ds, r) = (opens lk lw r).room
 
-  pub can_release_inside : CanRelease cells m k w → CanRelease cells m (k - 1) (get_or m.contents (w - 1) 0)
+  pub can_release_inside : CanRelease m k w → CanRelease m (k - 1) (get_or m.contents (w - 1) 0)
   can_release_inside (v, cs, ds, r) = let o = opens lk lw r in (o.inside, cs, o.left, o.inner)
 
-  module _ {m₁ : Memory} {j : ℕ} (same : j ≡ cells) (i : Released cells m (k - 1) (get_or m.contents (w - 1) 0) m₁) where
-    pub cell_in_use : CanRelease cells m k w → (es : List Cell) × Heap j m₁ es × InUse es (w - 1)
-    cell_in_use (v, cs, ds, r) = let o = opens lk lw r in (o.left, rw same (i.heap o.inside cs o.left o.inner), o.still)
+  module _ {m₁ : Store} (i : Released m (k - 1) (get_or m.contents (w - 1) 0) m₁) where
+    pub cell_in_use : CanRelease m k w → (es : List Cell) × Heap m₁ es × InUse es (w - 1)
+    cell_in_use (v, cs, ds, r) = let o = opens lk lw r in (o.left, i.heap o.inside cs o.left o.inner, o.still)
 
-    pub box_released : {m₂ : Memory} → CellFreed j m₁ (w - 1) m₂ → Released cells m k w m₂
-    box_released {m₂} g = let f : CellFreed cells m₁ (w - 1) m₂ = rw same at g in record {
-      frames = f.frames ∙ i.frames;
+    pub box_released : {m₂ : Store} → CellFreed m₁ (w - 1) m₂ → Released m k w m₂
+    box_released {m₂} f = record {
+      many = f.many ∙ i.many;
       contents = f.contents ∙ i.contents;
       heap = λ v cs ds r. (let o = opens lk lw r in rw (sym o.end) (f.heap o.left (i.heap o.inside cs o.left o.inner) o.still));
     }

@@ -28,7 +28,7 @@ module _ {g : Prog} {c : Control} {m : Memory} {d : ℕ} {p : Sig} {s : St} {f :
   row_room = h.rep.row.1.room
 
   module _ {c₁ : Control} {m₁ : Memory} (e : Closed c m c₁ m₁) where
-    pub end : ClosedTo c.cells m₁ p s (closes p 0 p.kinds s)
+    pub end : ClosedTo m₁.store p s (closes p 0 p.kinds s)
     end = e.end p s (closes p 0 p.kinds s) leave_closes
 
     given : Val → R
@@ -145,4 +145,4 @@ module _ {c : Control} {m : Memory} {c₁ : Control} {m₁ : Memory} (e : Closed
           going_back h e below₀ size₀ (is_word h) j
 
       pub leave_kept : {c₃ : Control} {m₃ : Memory} → PutIn c₂ m₂ x w c₃ m₃ → Kept c c₃
-      leave_kept i = let z = i.here ∙ here₂ in kept_same (ap (λ (z : Control). z.out) z) (ap (λ (z : Control). z.shown) z) (ap (λ (z : Control). z.count) z)
+      leave_kept i = let z = i.here ∙ here₂ in kept_same (ap (λ (z : Control). z.output) z)

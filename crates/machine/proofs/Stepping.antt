@@ -11,14 +11,14 @@ use Rattle.owned.specs.declared.decode.Statement.{Statement}
 use Rattle.owned.specs.declared.decode.Statement.TheVariants.{Skip, Then, Set, Between, Drop, If, While, Call, Show}
 use Rattle.machine.specs.declared.machine.Halt.{Halt}
 use Rattle.machine.specs.declared.machine.Halt.TheVariants.{Full, Spent, Deep}
-use Rattle.machine.specs.Memory.{Control, Memory, go_to, shows, showing, too_many}
+use Rattle.machine.specs.Memory.{Numbers, Control, Memory, go_to, with_output, shows, showing, too_many}
 use Rattle.machine.specs.Represents.{single, State, Represents}
 use Rattle.owned.specs.Strict.{perform, strict_s}
 use Rattle.machine.specs.Operations.{Does, Ended, CanDo, Did, CanDoAt, DidAt, Showed, Transferred, ExprAt}
 use Rattle.machine.specs.Steps.{Going, After, Ready, CanStep, Stepped, Kept, any_s, if_s, while_s, call_s}
 use Rattle.machine.proofs.Words.{word_in}
 use Rattle.machine.proofs.Evaluating.{drop_past}
-use Rattle.machine.proofs.Branching.{standing, past, kept_same}
+use Rattle.machine.proofs.Branching.{standing, past, moved, kept_same}
 use Rattle.machine.proofs.Heads.{fits_head}
 
 abbrev Says : Control → Statement → Type 0
@@ -95,10 +95,10 @@ module _ {g : Prog} {c : Control} {m : Memory} {d : ℕ} {p : Sig} {b : S} {ss :
 
 -- the numbers shown stay where control does but for its place
 pub on_kept : {c c₁ c₂ : Control} → c₁ ≡ c → c₂ ≡ go_to c₁ (get_or c₁.code.follow c₁.pos 0) → Kept c c₂
-on_kept e f = let z = f ∙ ap (λ (z : Control). go_to z (get_or z.code.follow z.pos 0)) e in kept_same (ap (λ (z : Control). z.out) z) (ap (λ (z : Control). z.shown) z) (ap (λ (z : Control). z.count) z)
+on_kept e f = let z = f ∙ ap (λ (z : Control). go_to z (get_or z.code.follow z.pos 0)) e in kept_same (ap (λ (z : Control). z.output) z)
 
-pub room_on : {c c₁ : Control} {m : Memory} → c₁ ≡ c → CanStep S any_s c m → c₁.pos < length c₁.code.follow
-room_on e h = rw e h.room
+pub room_on : {c c₁ : Control} {m : Memory} {at : ℕ} → c₁ ≡ c → at ≡ c.pos → CanStep S any_s c m → (at ≡ c₁.pos) × (c₁.pos < length c₁.code.follow)
+room_on e i h = rw e (i, h.room)
 
 module _ (b : S) (once : AtOnce b) {c : Control} {m : Memory} (is : All c m (λ a. a ≡ b)) where
   once_can : CanStep S any_s c m → CanDo c m b
@@ -142,8 +142,8 @@ module _ {c : Control} {m : Memory} where
   no_pair c₁ m₁ r e g d p a ss s fs h = let q = fits_head h e in let z : true ≡ false = sym h.rep.singles.0 ∙ ap single q.2 in let y : ◌≡◌ {A = ℕ} 0 1 = cc in absurd (omega arith)
 
   -- with an expression
-  set_words : {g : Prog} {d : ℕ} {p : Sig} {x : ℕ} {e : E} {ss : List S} {s : St} {fs : List Frame} → Ready g c m d p (S.set x e) ss s fs → ExprAt c.code.rows e (c.pos + 2)
-  set_words {x = x} h = ((standing h).words.0, drop_past c.pos c.code.rows (2 ∷ x ∷ []) _ (standing h).words.1)
+  set_words : {g : Prog} {d : ℕ} {p : Sig} {x : ℕ} {e : E} {ss : List S} {s : St} {fs : List Frame} → Ready g c m d p (S.set x e) ss s fs → ExprAt c.code e (c.pos + 2)
+  set_words {x = x} h = record { words = ((standing h).words.0, drop_past c.pos c.code.rows (2 ∷ x ∷ []) _ (standing h).words.1); table = (standing h).expr }
 
   pub set_can : (x : Var) → Says c (Set x) → CanStep S any_s c m → CanDoAt c m (S.set x.0) (c.pos + 2)
   set_can x e h =
@@ -157,8 +157,8 @@ module _ {c : Control} {m : Memory} where
       let i = as_is q.1 h in
       subst (λ z. Going g c₂ m₂ (strict_s first_free g d p z ss s fs)) (sym q.1) (went (λ g d p ss s fs. refl) i k.here (k.state p s (perform first_free p (S.set x.0 q.0) s) q.0 (does (λ g d p ss s fs. refl) i) (set_words i)) e₂ f)
 
-  show_words : {g : Prog} {d : ℕ} {p : Sig} {e : E} {ss : List S} {s : St} {fs : List Frame} → Ready g c m d p (S.show e) ss s fs → ExprAt c.code.rows e (c.pos + 1)
-  show_words h = ((standing h).words.0, drop_past c.pos c.code.rows (12 ∷ []) _ (standing h).words.1)
+  show_words : {g : Prog} {d : ℕ} {p : Sig} {e : E} {ss : List S} {s : St} {fs : List Frame} → Ready g c m d p (S.show e) ss s fs → ExprAt c.code e (c.pos + 1)
+  show_words h = record { words = ((standing h).words.0, drop_past c.pos c.code.rows (12 ∷ []) _ (standing h).words.1); table = (standing h).expr }
 
   pub show_can : Says c Show → CanStep S any_s c m → CanDoAt c m S.show (c.pos + 1)
   show_can e h =
@@ -167,39 +167,29 @@ module _ {c : Control} {m : Memory} where
       (h.sig, h.state, perform first_free h.sig (S.show q.0) h.state, q.0, does (λ g d p ss s fs. refl) i, show_words i)
 
   -- past a number that was shown
-  show_past : {g : Prog} {d : ℕ} {p : Sig} {b : S} {ss : List S} {s : St} {fs : List Frame} {c₁ c₂ : Control} {m₁ m₂ : Memory} {t : St} (w : ℕ) → Ready g c m d p b ss s fs → c₁ ≡ shows c w → State c₁ m₁ p t → c₂ ≡ go_to c₁ (get_or c₁.code.follow c₁.pos 0) → m₂ ≡ m₁ → Represents g c₂ m₂ d p ss t fs
-  show_past {g} {d} {p} {b} {ss} {s} {fs} {c₁} {c₂} {m₁} {m₂} {t} w h e r e₂ f = go (ltb c.count (length c.shown)) e
-    where
-      go : (k : Bool) → c₁ ≡ cond k (showing c w) (too_many c) → Represents g c₂ m₂ d p ss t fs
-      go true q =
-          let x = h.rep.context in let y : State (showing c w) m₁ p t = rw q at r in
-          let i : c₂ ≡ go_to (showing c w) h.rep.pends.0 = e₂ ∙ ap (λ (z : Control). go_to z (get_or z.code.follow z.pos 0)) q ∙ ap (λ j. go_to (showing c w) j) (standing h).next in
-          rw (i, f) (record { state = record { kinds = y.kinds; few = y.few; vars = y.vars; long = y.long; cells = y.cells; shown = y.shown; turns = y.turns }; pends = h.rep.pends.2; singles = h.rep.singles.1; row = h.rep.row; context = record { procs = x.procs; few = x.few; args = x.args; frames = x.frames; depth = x.depth; room = x.room; below = x.below; total = x.total } })
-      go false q =
-          let x = h.rep.context in let y : State (too_many c) m₁ p t = rw q at r in
-          let i : c₂ ≡ go_to (too_many c) h.rep.pends.0 = e₂ ∙ ap (λ (z : Control). go_to z (get_or z.code.follow z.pos 0)) q ∙ ap (λ j. go_to (too_many c) j) (standing h).next in
-          rw (i, f) (record { state = record { kinds = y.kinds; few = y.few; vars = y.vars; long = y.long; cells = y.cells; shown = y.shown; turns = y.turns }; pends = h.rep.pends.2; singles = h.rep.singles.1; row = h.rep.row; context = record { procs = x.procs; few = x.few; args = x.args; frames = x.frames; depth = x.depth; room = x.room; below = x.below; total = x.total } })
+  show_past : {g : Prog} {d : ℕ} {p : Sig} {b : S} {ss : List S} {s : St} {fs : List Frame} {c₁ c₂ : Control} {m₁ m₂ : Memory} {t : St} (o : Numbers) → Ready g c m d p b ss s fs → c₁ ≡ with_output c o → State c₁ m₁ p t → c₂ ≡ go_to c₁ (get_or c₁.code.follow c₁.pos 0) → m₂ ≡ m₁ → Represents g c₂ m₂ d p ss t fs
+  show_past {g} {d} {p} {b} {ss} {s} {fs} {c₁} {c₂} {m₁} {m₂} {t} o h e r e₂ f =
+      let x = h.rep.context in
+      let y : State (with_output c o) m₁ p t = rw e at r in
+      let i : c₂ ≡ go_to (with_output c o) h.rep.pends.0 = e₂ ∙ ap (λ (z : Control). go_to z (get_or z.code.follow z.pos 0)) e ∙ ap (λ j. go_to (with_output c o) j) (standing h).next in
+      rw (i, f) (record { state = moved h.rep.pends.0 y; pends = h.rep.pends.2; singles = h.rep.singles.1; row = h.rep.row; context = record { procs = x.procs; few = x.few; args = x.args; frames = x.frames; depth = x.depth; room = x.room; below = x.below; total = x.total } })
 
   pub show_done : {c₁ c₂ : Control} {m₁ m₂ : Memory} → Says c Show → Showed c m (c.pos + 1) c₁ m₁ → c₂ ≡ go_to c₁ (get_or c₁.code.follow c₁.pos 0) → m₂ ≡ m₁ → Stepped S any_s c m c₂ m₂ (Ok tt)
   show_done {c₁} {c₂} {m₁} {m₂} e k e₂ f g d p a ss s fs h =
       let q = fits_head h e in
       let i = as_is q.1 h in
       let n = k.state p s (perform first_free p (S.show q.0) s) q.0 (does (λ g d p ss s fs. refl) i) (show_words i) in
-      subst (λ z. Going g c₂ m₂ (strict_s first_free g d p z ss s fs)) (sym q.1) (record { d = d; p = p; todo = ss; s = n.end; fs = fs; is = ap (λ r. and_m r (λ t. going d p ss t fs)) n.is; rep = show_past k.word i k.here n.state e₂ f })
+      subst (λ z. Going g c₂ m₂ (strict_s first_free g d p z ss s fs)) (sym q.1) (record { d = d; p = p; todo = ss; s = n.end; fs = fs; is = ap (λ r. and_m r (λ t. going d p ss t fs)) n.is; rep = show_past (shows c.output k.word) i k.here n.state e₂ f })
 
-shown_kept : (c : Control) (w : ℕ) (b : Bool) → ltb c.count (length c.shown) ≡ b → Kept c (cond b (showing c w) (too_many c))
-shown_kept c w true e = record { out = refl; long = length-set c.shown c.count w; more = omega arith; past = drop-set-lt (c.count + 1) c.shown c.count w (omega arith) }
+shown_kept : (c : Control) (w : ℕ) (b : Bool) → ltb c.output.count (length c.output.shown) ≡ b → Kept c (with_output c (cond b (showing c.output w) (too_many c.output)))
+shown_kept c w true e = let o = c.output in record { out = refl; long = length-set o.shown o.count w; more = omega arith; past = drop-set-lt (o.count + 1) o.shown o.count w (omega arith) }
 shown_kept c w false e = record { out = refl; long = refl; more = omega arith; past = refl }
 
-module _ {c c₁ : Control} (w : ℕ) (e : c₁ ≡ shows c w) where
+module _ {c c₁ : Control} (w : ℕ) (e : c₁ ≡ with_output c (shows c.output w)) where
   pub show_kept : {c₂ : Control} → c₂ ≡ go_to c₁ (get_or c₁.code.follow c₁.pos 0) → Kept c c₂
   show_kept {c₂} f =
-      let k : Kept c c₁ = rw e (shown_kept c w (ltb c.count (length c.shown)) refl) in
+      let k : Kept c c₁ = rw e (shown_kept c w (ltb c.output.count (length c.output.shown)) refl) in
       rw f (record { out = k.out; long = k.long; more = k.more; past = k.past })
 
-  pub show_room : {m : Memory} → CanStep S any_s c m → c₁.pos < length c₁.code.follow
-  show_room h = rw e (go (ltb c.count (length c.shown)))
-    where
-      go : (b : Bool) → (cond b (showing c w) (too_many c)).pos < length (cond b (showing c w) (too_many c)).code.follow
-      go true = h.room
-      go false = h.room
+  pub show_room : {m : Memory} {at : ℕ} → at ≡ c.pos → CanStep S any_s c m → (at ≡ c₁.pos) × (c₁.pos < length c₁.code.follow)
+  show_room i h = rw e (i, h.room)

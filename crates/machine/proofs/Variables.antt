@@ -5,7 +5,7 @@ use Rattle.std.specs.List.{slice_get}
 use Rattle.owned.specs.Program.{Sig, kind}
 use Rattle.owned.specs.Runs.{Val, n, at, nothing, Cell, St, fine, fault, set_v, with_cells, Took, took, missing}
 use Rattle.owned.proofs.Places.{nth_lt}
-use Rattle.machine.specs.Memory.{Control, Memory, set_word}
+use Rattle.machine.specs.Memory.{Control, Store, Memory, set_word, with_store}
 use Rattle.machine.specs.Represents.{State}
 use Rattle.owned.specs.Strict.{freed, or_fault, place, taken_at, fetched}
 use Rattle.machine.specs.Operations.{Releases, CanRelease, Released, Takes, CanTake, TookOut, Puts, CanPut, PutIn, Points}
@@ -103,24 +103,20 @@ module _ {c : Control} {m : Memory} {x w : ℕ} where
   put_kind h = (get_kind h.4.state x (put_there h.4)).0
 
   module _ {k old : ℕ} (ek : k ≡ get_or c.code.rows (c.kinds + x) 0) (eo : old ≡ get_or m.frames (c.base + x) 0) where
-    gives : {p : Sig} {s : St} {v : Val} {t : St} (g : Puts c m x w p s v t) (h : Placing x (kind p x) v s t) → Releases c.cells m k old h.old s.cells h.cells
+    gives : {p : Sig} {s : St} {v : Val} {t : St} (g : Puts c m x w p s v t) (h : Placing x (kind p x) v s t) → Releases m.store k old h.old s.cells h.cells
     gives {p} {s} g h = record { heap = g.state.cells; means = rw eo (get_value g.state x h.old h.there).1; freed = rw (ek ∙ (get_kind g.state x (put_there g)).1) h.freed }
 
-    pub put_releases : CanPut c m x w → CanRelease c.cells m k old
+    pub put_releases : CanPut c m x w → CanRelease m.store k old
     put_releases r = let h = placing (kind r.0 x) x r.2 r.1 r.3 r.4.puts in (h.old, r.1.cells, h.cells, gives r.4 h)
 
-    module _ {c₁ : Control} {m₁ : Memory} (hc : c₁ ≡ c) (f : Released c.cells m k old m₁) where
-      pub put_room : CanPut c m x w → c₁.base + x < length m₁.frames
-      put_room h = rw (hc, f.frames) (put_var h)
-
-      pub put_done : {c₂ : Control} {m₂ : Memory} → c₂ ≡ c₁ → m₂ ≡ set_word m₁ (c₁.base + x) w → PutIn c m x w c₂ m₂
-      put_done {c₂} {m₂} hc₂ hm = record {
-        here = hc₂ ∙ hc;
+    module _ {st : Store} (f : Released m.store k old st) where
+      pub put_done : {c₁ : Control} {m₁ : Memory} → c₁ ≡ c → m₁ ≡ set_word (with_store m st) (c.base + x) w → PutIn c m x w c₁ m₁
+      put_done {c₁} {m₁} hc hm = record {
+        here = hc;
         state = λ p s v t g. (
             let h = placing (kind p x) x v s t g.puts in
-            let r = with_heap g.state m₁ (with_cells s h.cells) f.frames (f.heap h.old s.cells h.cells (gives g h)) refl refl refl in
-            let e : m₂ ≡ set_word m₁ (c.base + x) w = hm ∙ ap (λ (z : Control). set_word m₁ (z.base + x) w) hc in
-            rw (e, ← h.is) (with_var r x v w (put_there g) g.means));
+            let r = with_heap g.state (with_store m st) (with_cells s h.cells) refl (f.heap h.old s.cells h.cells (gives g h)) refl refl refl in
+            rw (hm, ← h.is) (with_var r x v w (put_there g) g.means));
       }
 
 -- the cell of a box

@@ -9,7 +9,7 @@ use Rattle.owned.specs.Program.{Sig, kind}
 use Rattle.owned.specs.Runs.{Val, at, nothing, Cell, free, holds, St, get, set_v}
 use Rattle.owned.specs.FreeList.{next_free, FreeAt}
 use Rattle.owned.proofs.Places.{nth_lt, get_or_nth}
-use Rattle.machine.specs.Memory.{Control, Memory, set_word, set_content, with_frames}
+use Rattle.machine.specs.Memory.{Control, Store, Memory, set_word, set_content}
 use Rattle.machine.specs.Represents.{Means, Vars, Heap, State}
 
 -- the words of a list that begins at a place
@@ -41,14 +41,7 @@ in_use_there (c ∷ cs) (suc a) b v e = let l = in_use_there cs a b v e in omega
 pub not_holds : {B : Type 0} (b : ℕ) (v : Val) → free ≡ holds b v → B
 not_holds b v e = let z : ◌≡◌ {A = ℕ} 0 1 = cc in absurd (omega arith)
 
--- what stands where a cell is set
-pub cell_set : (cs : List Cell) (a : ℕ) (c : Cell) → a < length cs → get_or (set cs a c) a free ≡ c
-cell_set cs a c l = get_or-set_same cs a c free l
-
 module _ {c : Control} {m : Memory} {p : Sig} {s : St} (r : State c m p s) where
-  pub var_there : (x : ℕ) (v : Val) → slice_get s.vars x ≡ Some v → x < length s.vars
-  var_there x v e = nth_lt s.vars x v e
-
   pub get_var : (x : ℕ) → x < length s.vars → (c.base + x < length m.frames) × Means (get s x) (get_or m.frames (c.base + x) 0)
   get_var x l = (omega (arith, r.vars.room), r.vars.each x l)
 
@@ -63,13 +56,10 @@ module _ {c : Control} {m : Memory} {p : Sig} {s : St} (r : State c m p s) where
       (w.0, w.1 ∙ get_or_append_left p.kinds r.kinds.0 0 x h)
 
   pub with_var : (x : ℕ) (v : Val) (w : ℕ) → x < length s.vars → Means v w → State c (set_word m (c.base + x) w) p (set_v s x v)
-  with_var x v w l h = record { kinds = r.kinds; few = r.few; vars = vars_write s.vars m.frames c.base x v w r.vars h l; long = length-set s.vars x v ∙ r.long; cells = heap_frames c.cells m s.cells _ r.cells; shown = r.shown; turns = r.turns }
-    where
-      heap_frames : (k : ℕ) (m : Memory) (cs : List Cell) (F : List ℕ) → Heap k m cs → Heap k (with_frames m F) cs
-      heap_frames k m cs F h = record { list = h.list; many = h.many; fits = h.fits; room = h.room; content = h.content }
+  with_var x v w l h = record { kinds = r.kinds; few = r.few; vars = vars_write s.vars m.frames c.base x v w r.vars h l; long = length-set s.vars x v ∙ r.long; cells = r.cells; shown = r.shown; turns = r.turns }
 
   -- other cells, with the variables as they are
-  pub with_heap : (m₁ : Memory) (t : St) → m₁.frames ≡ m.frames → Heap c.cells m₁ t.cells → t.vars ≡ s.vars → t.shown ≡ s.shown → t.left ≡ s.left → State c m₁ p t
+  pub with_heap : (m₁ : Memory) (t : St) → m₁.frames ≡ m.frames → Heap m₁.store t.cells → t.vars ≡ s.vars → t.shown ≡ s.shown → t.left ≡ s.left → State c m₁ p t
   with_heap m₁ t ef h ev es el = record { kinds = r.kinds; few = r.few; vars = rw (ef, ev) r.vars; long = rw ev r.long; cells = h; shown = rw es r.shown; turns = r.turns ∙ sym el }
 
 -- a box is in a variable that is there
@@ -107,8 +97,8 @@ content_set ws cs a b' v w l lw me h i b u e = go (cases_eq i a)
         rw (q, get_or-set_same ws a w 0 lw, ← y) me
     go (inr ne) = rw (get_or-set_other ws a i w 0 ne) (h i b u (sym (get_or-set_other cs a i (holds b' v) free ne) ∙ e))
 
-pub heap_fill : {k : ℕ} {m : Memory} {cs : List Cell} (a b b' : ℕ) (u v : Val) (w : ℕ) → get_or cs a free ≡ holds b u → Means v w → Heap k m cs → Heap k (set_content m a w) (set cs a (holds b' v))
-heap_fill {k} {m} {cs} a b b' u v w e me r =
+pub heap_fill : {m : Store} {cs : List Cell} (a b b' : ℕ) (u v : Val) (w : ℕ) → get_or cs a free ≡ holds b u → Means v w → Heap m cs → Heap (set_content m a w) (set cs a (holds b' v))
+heap_fill {m} {cs} a b b' u v w e me r =
     let l = in_use_there cs a b u e in
     record {
       list = record { linked = omega (arith, r.list.linked, length-set cs a (holds b' v)); begins = r.list.begins ∙ sym (next_kept cs a b b' u v 0 e); next = λ i f. r.list.next i (free_kept cs a b b' u v i e f) ∙ sym (next_kept cs a b b' u v (i + 1) e) };

@@ -5,7 +5,7 @@ use Rattle.owned.specs.Program.{Arg, Sig, Prog, kind}
 use Rattle.owned.specs.Rows.{row_as}
 use Rattle.owned.specs.Runs.{first_free, Val, St, R, fine, fault, took, stays}
 use Rattle.owned.specs.Machine.{Frame, going, stopped}
-use Rattle.machine.specs.Memory.{Control, Memory, set_word, with_frames, entered}
+use Rattle.machine.specs.Memory.{Control, Store, Memory, set_word, with_frames, entered}
 use Rattle.machine.specs.Represents.{Means, Vars, Heap, State, Row, Represents}
 use Rattle.machine.specs.Operations.{NoFault}
 use Rattle.owned.specs.Strict.{pass_one, pass, closes, strict}
@@ -77,10 +77,10 @@ pub record CanClose (c : Control) (m : Memory) : Type 0 where
   pub room : 8 * c.procedure + 8 ≤ length c.code.procs
 
 -- cells are given back, and the result and lent variables stay
-pub record ClosedTo (cells : ℕ) (m : Memory) (p : Sig) (s : St) (r : R) : Type 0 where
+pub record ClosedTo (m : Store) (p : Sig) (s : St) (r : R) : Type 0 where
   pub end : St
   pub is : r ≡ fine end
-  pub heap : Heap cells m end.cells
+  pub heap : Heap m end.cells
   pub shown : end.shown ≡ s.shown
   pub left : end.left ≡ s.left
   pub kept : (y : ℕ) → stays p y ≡ true → slice_get end.vars y ≡ slice_get s.vars y
@@ -88,7 +88,7 @@ pub record ClosedTo (cells : ℕ) (m : Memory) (p : Sig) (s : St) (r : R) : Type
 pub record Closed (c : Control) (m : Memory) (c₁ : Control) (m₁ : Memory) : Type 0 where
   pub here : c₁ ≡ c
   pub frames : m₁.frames ≡ m.frames
-  pub end : (p : Sig) (s : St) (r : R) → Closes c m p s r → ClosedTo c.cells m₁ p s r
+  pub end : (p : Sig) (s : St) (r : R) → Closes c m p s r → ClosedTo m₁.store p s r
 
 -- back to the caller
 pub record Leaves (g : Prog) (c : Control) (m : Memory) (d : ℕ) (p : Sig) (s : St) (f : Frame) (fs : List Frame) : Type 0 where

@@ -4,4 +4,4 @@ pub mod Represents
 pub mod Operations
 pub mod Steps
 pub mod Calls
-pub mod Links
+pub mod Running

@@ -1,46 +1,47 @@
 -- What the operations on variables and cells ask for and do. Memory does not determine the state that it stands for,
 -- so each asks for some state, and says of every one what comes of it.
-use Rattle.std.specs.Prelude.{◌≡◌, ℕ, zero, suc, ◌+◌, ◌-◌, ◌*◌, ◌%◌, ◌^◌, ◌<◌, ◌≤◌, List, ◌++◌, length, drop, Some, None, Ok, Err, Option, Result, ◌≢◌, nat_lt, slice_index, slice_set}
+use Rattle.std.specs.Prelude.{◌≡◌, ℕ, zero, suc, ◌+◌, ◌-◌, ◌*◌, ◌%◌, ◌^◌, ◌<◌, ◌≤◌, Bool, ◌&&◌, ◌||◌, List, ◌++◌, length, drop, Some, None, Ok, Err, Option, Result, ◌≢◌, nat_le, nat_lt, slice_index, slice_set}
 use Rattle.machine.specs.declared.machine.Halt.{Halt}
 use Rattle.machine.specs.declared.machine.Halt.TheVariants.{Full, Spent, Deep}
 use Rattle.owned.specs.Program.{E, S, Sig, bit, kind}
 use Rattle.owned.specs.Runs.{first_free, Val, at, Cell, free, holds, St, R, fine, fault, full, ok, value, get, took, first}
 use Rattle.owned.specs.Rows.{row_e}
 use Rattle.owned.specs.FreeList.{InUse}
-use Rattle.machine.specs.Memory.{Control, Memory, shows}
+use Rattle.linker.specs.Code.{Code, AtE}
+use Rattle.machine.specs.Memory.{Control, Store, Memory, with_output, shows}
 use Rattle.machine.specs.Represents.{Means, Heap, State}
 use Rattle.owned.specs.Strict.{freed, fetched, place, perform}
 
 -- a cell given back
-pub record CellFreed (cells : ℕ) (m : Memory) (a : ℕ) (m₁ : Memory) : Type 0 where
-  pub frames : m₁.frames ≡ m.frames
+pub record CellFreed (m : Store) (a : ℕ) (m₁ : Store) : Type 0 where
+  pub many : m₁.many ≡ m.many
   pub contents : m₁.contents ≡ m.contents
-  pub heap : (cs : List Cell) → Heap cells m cs → InUse cs a → Heap cells m₁ (slice_set cs a free)
+  pub heap : (cs : List Cell) → Heap m cs → InUse cs a → Heap m₁ (slice_set cs a free)
 
 -- a cell for a new box, whose word is the result
-pub record CellMade (cells : ℕ) (m : Memory) (w : ℕ) (m₁ : Memory) (x : ℕ) (cs : List Cell) (v : Val) : Type 0 where
+pub record CellMade (m : Store) (w : ℕ) (m₁ : Store) (x : ℕ) (cs : List Cell) (v : Val) : Type 0 where
   pub cell : ℕ
   pub word : x ≡ cell + 1
   pub chosen : first cs 0 ≡ Some cell
-  pub heap : (b : ℕ) → Heap cells m₁ (slice_set cs cell (holds b v))
+  pub heap : (b : ℕ) → Heap m₁ (slice_set cs cell (holds b v))
 
-abbrev pub Allocated : ℕ → Memory → ℕ → Memory → Option ℕ → Type 0
-Allocated cells m w m₁ None = (cs : List Cell) → Heap cells m cs → first cs 0 ≡ None
-Allocated cells m w m₁ (Some x) = (m₁.frames ≡ m.frames) × ((cs : List Cell) (v : Val) → Heap cells m cs → Means v w → CellMade cells m w m₁ x cs v)
+abbrev pub Allocated : Store → ℕ → Store → Option ℕ → Type 0
+Allocated m w m₁ None = (m₁ ≡ m) × ((cs : List Cell) → Heap m cs → first cs 0 ≡ None)
+Allocated m w m₁ (Some x) = (m₁.many ≡ m.many) × ((cs : List Cell) (v : Val) → Heap m cs → Means v w → CellMade m w m₁ x cs v)
 
 -- a value v of kind k given back, which leaves the cells ds
-pub record Releases (cells : ℕ) (m : Memory) (k w : ℕ) (v : Val) (cs ds : List Cell) : Type 0 where
-  pub heap : Heap cells m cs
+pub record Releases (m : Store) (k w : ℕ) (v : Val) (cs ds : List Cell) : Type 0 where
+  pub heap : Heap m cs
   pub means : Means v w
   pub freed : freed k v cs ≡ Some ds
 
-abbrev pub CanRelease : ℕ → Memory → ℕ → ℕ → Type 0
-CanRelease cells m k w = (v : Val) × (cs : List Cell) × (ds : List Cell) × Releases cells m k w v cs ds
+abbrev pub CanRelease : Store → ℕ → ℕ → Type 0
+CanRelease m k w = (v : Val) × (cs : List Cell) × (ds : List Cell) × Releases m k w v cs ds
 
-pub record Released (cells : ℕ) (m : Memory) (k w : ℕ) (m₁ : Memory) : Type 0 where
-  pub frames : m₁.frames ≡ m.frames
+pub record Released (m : Store) (k w : ℕ) (m₁ : Store) : Type 0 where
+  pub many : m₁.many ≡ m.many
   pub contents : m₁.contents ≡ m.contents
-  pub heap : (v : Val) (cs ds : List Cell) → Releases cells m k w v cs ds → Heap cells m₁ ds
+  pub heap : (v : Val) (cs ds : List Cell) → Releases m k w v cs ds → Heap m₁ ds
 
 -- a variable's value taken out
 pub record Takes (c : Control) (m : Memory) (x : ℕ) (p : Sig) (s : St) (v : Val) (t : St) : Type 0 where
@@ -81,14 +82,15 @@ CanPoint c m x = (p : Sig) × (s : St) × (a : ℕ) × (b : ℕ) × Points c m x
 abbrev pub PointsAt : Control → Memory → ℕ → ℕ → Type 0
 PointsAt c m x r = (p : Sig) (s : St) (a b : ℕ) → Points c m x p s a b → r ≡ a
 
--- the words of an expression from place i on
-abbrev pub ExprAt : List ℕ → E → ℕ → Type 0
-ExprAt ws e i = (rest : List ℕ) × (drop i ws ≡ row_e e ++ rest)
+-- an expression from place i on, in words and in the tables
+pub record ExprAt (c : Code) (e : E) (i : ℕ) : Type 0 where
+  pub words : (rest : List ℕ) × (drop i c.rows ≡ row_e e ++ rest)
+  pub table : AtE c e i
 
 -- an expression's value
 pub record Evaluates (c : Control) (m : Memory) (i : ℕ) (p : Sig) (s : St) (e : E) (k : ℕ) : Type 0 where
   pub state : State c m p s
-  pub words : ExprAt c.code.rows e i
+  pub expr : ExprAt c.code e i
   pub value : value s e ≡ ok k
 
 pub record CanEvaluate (c : Control) (m : Memory) (i : ℕ) : Type 0 where
@@ -99,9 +101,12 @@ pub record CanEvaluate (c : Control) (m : Memory) (i : ℕ) : Type 0 where
   pub evaluates : Evaluates c m i sig state expr number
   pub here : i < length c.code.rows
 
--- the value, and where the expression ends
-abbrev pub Evaluated : Control → Memory → ℕ → ℕ × ℕ → Type 0
-Evaluated c m i r = (p : Sig) (s : St) (e : E) (k : ℕ) → Evaluates c m i p s e k → (r.0 ≡ k) × (r.1 ≡ i + length (row_e e))
+abbrev pub Evaluated : Control → Memory → ℕ → ℕ → Type 0
+Evaluated c m i r = (p : Sig) (s : St) (e : E) (k : ℕ) → Evaluates c m i p s e k → r ≡ k
+
+-- the expression at a place has operands, and one of them has operands itself
+abbrev pub nests : List ℕ → ℕ → Bool
+nests ws i = nat_le 2 (slice_index ws i) && (nat_le 2 (slice_index ws (i + 1)) || nat_le 2 (slice_index ws (i + 3)))
 
 -- two numbers put together, by the first word of the expression
 abbrev pub combined : ℕ → ℕ → ℕ → ℕ
@@ -135,18 +140,18 @@ pub record Did (c : Control) (m : Memory) (a : S) (c₁ : Control) (m₁ : Memor
 
 -- with an expression that stands at a place
 abbrev pub CanDoAt : Control → Memory → (E → S) → ℕ → Type 0
-CanDoAt c m a i = (p : Sig) × (s : St) × (r : R) × (e : E) × Does c m (a e) p s r × ExprAt c.code.rows e i
+CanDoAt c m a i = (p : Sig) × (s : St) × (r : R) × (e : E) × Does c m (a e) p s r × ExprAt c.code e i
 
 pub record DidAt (c : Control) (m : Memory) (a : E → S) (i : ℕ) (c₁ : Control) (m₁ : Memory) : Type 0 where
   pub here : c₁ ≡ c
-  pub state : (p : Sig) (s : St) (r : R) (e : E) → Does c m (a e) p s r → ExprAt c.code.rows e i → Ended c m₁ p r
+  pub state : (p : Sig) (s : St) (r : R) (e : E) → Does c m (a e) p s r → ExprAt c.code e i → Ended c m₁ p r
 
 -- a number shown, or one too many
 pub record Showed (c : Control) (m : Memory) (i : ℕ) (c₁ : Control) (m₁ : Memory) : Type 0 where
   pub word : ℕ
-  pub here : c₁ ≡ shows c word
+  pub here : c₁ ≡ with_output c (shows c.output word)
   pub same : m₁ ≡ m
-  pub state : (p : Sig) (s : St) (r : R) (e : E) → Does c m (S.show e) p s r → ExprAt c.code.rows e i → Ended c₁ m₁ p r
+  pub state : (p : Sig) (s : St) (r : R) (e : E) → Does c m (S.show e) p s r → ExprAt c.code e i → Ended c₁ m₁ p r
 
 -- a statement that may find no free cell
 abbrev pub Transferred : Control → Memory → S → Control → Memory → Result (Unit {0}) Halt → Type 0

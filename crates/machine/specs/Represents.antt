@@ -5,8 +5,8 @@ use Rattle.owned.specs.Program.{S, Sig, Proc, Prog}
 use Rattle.owned.specs.Runs.{Val, n, at, nothing, Cell, free, holds, St}
 use Rattle.owned.specs.Machine.{Frame}
 use Rattle.owned.specs.FreeList.{FreeList}
-use Rattle.owned.specs.Code.{Code, Pends, ProcAt}
-use Rattle.machine.specs.Memory.{Control, Memory}
+use Rattle.linker.specs.Code.{Code, Pends, ProcAt}
+use Rattle.machine.specs.Memory.{Numbers, Control, Store, Memory}
 
 -- a value in a word: a number itself, a box by its cell's number and one more, nothing as 0
 abbrev pub Means : Val → ℕ → Type 0
@@ -20,17 +20,20 @@ pub record Vars (vs : List Val) (ws : List ℕ) (b : ℕ) : Type 0 where
   pub each : (x : ℕ) → x < length vs → Means (slice_index_or vs x nothing) (slice_index ws (b + x))
 
 -- so many cells: those in use by what they hold, the others by the free list
-pub record Heap (cells : ℕ) (m : Memory) (cs : List Cell) : Type 0 where
-  pub list : FreeList m.links m.head cs
-  pub many : length cs ≡ cells
-  pub fits : cells < 2 ^ 32
-  pub room : cells ≤ length m.contents
-  pub content : (a b : ℕ) (v : Val) → slice_index_or cs a free ≡ holds b v → Means v (slice_index m.contents a)
+pub record Heap (s : Store) (cs : List Cell) : Type 0 where
+  pub list : FreeList s.links s.head cs
+  pub many : length cs ≡ s.many
+  pub fits : s.many < 2 ^ 32
+  pub room : s.many ≤ length s.contents
+  pub content : (a b : ℕ) (v : Val) → slice_index_or cs a free ≡ holds b v → Means v (slice_index s.contents a)
 
 -- numbers shown in the first words, or more of them than there are words
 abbrev pub Shown : Bool → List ℕ → ℕ → List ℕ → Type 0
 Shown false ws k l = (take k ws ≡ l) × (k ≤ length ws)
 Shown true ws k l = (length ws < length l) × (length ws ≤ k)
+
+abbrev pub Shows : Numbers → List ℕ → Type 0
+Shows o l = Shown o.over o.shown o.count l
 
 -- the state of the procedure that is running
 pub record State (c : Control) (m : Memory) (p : Sig) (s : St) : Type 0 where
@@ -38,8 +41,8 @@ pub record State (c : Control) (m : Memory) (p : Sig) (s : St) : Type 0 where
   pub few : length p.kinds ≤ 32
   pub vars : Vars s.vars m.frames c.base
   pub long : length s.vars ≡ length p.kinds
-  pub cells : Heap c.cells m s.cells
-  pub shown : Shown c.over c.shown c.count s.shown
+  pub cells : Heap m.store s.cells
+  pub shown : Shows c.output s.shown
   pub turns : c.turns ≡ s.left
 
 -- no pair is pending: it is pushed as its two statements
@@ -76,9 +79,10 @@ pub record FrameAt (c : Code) (ws : List ℕ) (b : ℕ) (f : Frame) : Type 0 whe
   pub long : length f.vars ≡ length f.sig.kinds
   pub dest : get_or ws (b + 34) 0 ≡ f.dest
 
--- the callers, the innermost just below place b
+-- The callers, the innermost just below place b. The first procedure's frame is the second one: the words of the
+-- first are nobody's.
 abbrev pub Frames : Code → List ℕ → ℕ → List Frame → Type 0
-Frames c ws b [] = b ≡ 0
+Frames c ws b [] = b ≡ 40
 Frames c ws b (f ∷ fs) = (a : ℕ) × (b ≡ a + 40) × FrameAt c ws a f × Frames c ws a fs
 
 -- what is around the running procedure: the tables of the whole program, the callers, and room for d more calls;

@@ -26,6 +26,15 @@ After g c m w (Err Full) = w ≡ stopped full
 After g c m w (Err Spent) = w ≡ stopped spent
 After g c m w (Err Deep) = w ≡ stopped deep
 
+-- the same of a step that gives the place where the machine goes on, and that place
+abbrev pub halted : Result ℕ Halt → Result (Unit {0}) Halt
+halted (Ok q) = Ok tt
+halted (Err h) = Err h
+
+abbrev pub Next : Control → Result ℕ Halt → Type 0
+Next c (Ok q) = q ≡ c.pos
+Next c (Err h) = Unit {0}
+
 -- a statement a that comes next, and does not come to a fault
 pub record Ready (g : Prog) (c : Control) (m : Memory) (d : ℕ) (p : Sig) (a : S) (ss : List S) (s : St) (fs : List Frame) : Type 0 where
   pub rep : Represents g c m d p (a ∷ ss) s fs
@@ -49,10 +58,10 @@ Stepped A a c m c₁ m₁ r = (g : Prog) (d : ℕ) (p : Sig) (v : A) (ss : List 
 
 -- The numbers shown before stay, and so do the words past those shown.
 pub record Kept (c c₁ : Control) : Type 0 where
-  pub out : c₁.out ≡ c.out
-  pub long : length c₁.shown ≡ length c.shown
-  pub more : c.count ≤ c₁.count
-  pub past : drop c₁.count c₁.shown ≡ drop c₁.count c.shown
+  pub out : c₁.output.out ≡ c.output.out
+  pub long : length c₁.output.shown ≡ length c.output.shown
+  pub more : c.output.count ≤ c₁.output.count
+  pub past : drop c₁.output.count c₁.output.shown ≡ drop c₁.output.count c.output.shown
 
 -- any statement, an `if`, a `while`, and a call, by their parts
 abbrev pub any_s : S → S

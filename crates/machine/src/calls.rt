@@ -1,10 +1,12 @@
 ghost use Rattle.std.specs.Prelude.{◌≡◌, ◌+◌, ◌*◌, ◌<◌, ◌≤◌, List, length, slice_index};
 ghost use Rattle.owned.specs.Program.{Arg};
 ghost use Rattle.machine.specs.Memory.{control, memory, set_word, entered};
-ghost use Rattle.machine.specs.Steps.{CanStep, Stepped, Kept, call_s};
+ghost use Rattle.machine.specs.Steps.{CanStep, Stepped, Kept, Next, halted, call_s};
 ghost use Rattle.machine.specs.Calls.{CanPassOne, PassedOne, CanPass, Passed, suspended, Blanked, Opened};
 
+use crate::frames::{DEST, FRAME_WORDS, PROCEDURE, RESUME};
 use crate::machine::{Halt, Machine};
+use linker::{BODY, MANY, PROC_WORDS};
 use owned::names::Var;
 
 impl<'a> Machine<'a> {
@@ -28,7 +30,7 @@ impl<'a> Machine<'a> {
         ensures here { control self.new ≡ control self.old }
         ensures stored { memory self.new ≡ set_word (memory self.old) ((control self.old).base + 40 + i) word }
     {
-        self.frames[self.base + 40 + i] = word;
+        self.frames[self.base + FRAME_WORDS + i] = word;
     }
 
     // So many arguments that stand from a place on, into the next frame.
@@ -36,44 +38,46 @@ impl<'a> Machine<'a> {
         requires { CanPass (control self.old) (memory self.old) at many }
         ensures { Passed (control self.old) (memory self.old) at many (control self.new) (memory self.new) }
     {
-        let mut at = at;
-        let mut i: usize = 0;
-        while i < many as usize {
-            let word = self.argument(at);
+        for i in 0..many as usize {
+            let word = self.argument(at + 2 * i);
             self.store_next(i, word);
-            at += 2;
-            i += 1;
         }
     }
 
     // Notes in the running procedure's frame where it goes on, its number, and the variable for the result.
-    fn suspend(&mut self, dest: Var)
+    fn suspend(&mut self, at: usize, dest: Var)
+        requires at { at ≡ (control self.old).pos }
         requires room { (control self.old).base + 40 ≤ length (memory self.old).frames }
         requires here { (control self.old).pos < length (control self.old).code.follow }
         ensures here { control self.new ≡ control self.old }
         ensures suspended { memory self.new ≡ suspended (control self.old) (memory self.old) dest.0 }
     {
-        let follow = self.follow[self.pos];
-        self.store(Var(32), follow);
+        let base = self.base;
+        let follow = self.tables.follow[at];
         let procedure = self.procedure;
-        self.store(Var(33), procedure);
-        self.store(Var(34), dest.0);
+        let frames = &mut *self.frames;
+        frames[base + RESUME] = follow;
+        frames[base + PROCEDURE] = procedure;
+        frames[base + DEST] = dest.0;
     }
 
     // Goes to a procedure, whose frame is the next one.
-    fn enter(&mut self, f: u32)
+    fn enter(&mut self, f: u32) -> usize
         requires row { 8 * f + 8 ≤ length (control self.old).code.procs }
         requires deep { 0 < (control self.old).depth }
         requires room { (control self.old).base + 40 ≤ length (memory self.old).frames }
         ensures here { control self.new ≡ entered (control self.old) f (memory self.old).frames }
         ensures same { memory self.new ≡ memory self.old }
+        ensures next { result ≡ (control self.new).pos }
     {
-        let row = 8 * f as usize;
-        self.pos = self.procs[row + 3] as usize;
-        self.kinds = self.procs[row] as usize;
-        self.base += 40;
+        let row = PROC_WORDS * f as usize;
+        let next = self.tables.procs[row + BODY] as usize;
+        self.pos = next;
+        self.kinds = self.tables.procs[row] as usize;
+        self.base += FRAME_WORDS;
         self.procedure = f;
         self.depth -= 1;
+        next
     }
 
     // Empties the variables from one on, up to another.
@@ -82,43 +86,45 @@ impl<'a> Machine<'a> {
         ensures here { control self.new ≡ control self.old }
         ensures blank { Blanked (control self.old).base from to (memory self.old) (memory self.new) }
     {
-        let mut x = from;
-        while x < to {
-            self.store(Var(x), 0);
-            x += 1;
+        let base = self.base;
+        let frames = &mut *self.frames;
+        for x in from..to {
+            frames[base + x as usize] = 0;
         }
     }
 
     // Goes to a procedure whose first variables are in the next frame; the others are empty.
-    pub(crate) fn open(&mut self, f: u32, given: u32)
+    pub(crate) fn open(&mut self, f: u32, given: u32) -> usize
         requires row { 8 * f + 8 ≤ length (control self.old).code.procs }
         requires deep { 0 < (control self.old).depth }
         requires room { (control self.old).base + 40 + slice_index (control self.old).code.procs (8 * f + 1) ≤ length (memory self.old).frames }
-        ensures { Opened (control self.old) (memory self.old) f given (control self.new) (memory self.new) }
+        ensures opened { Opened (control self.old) (memory self.old) f given (control self.new) (memory self.new) }
+        ensures next { result ≡ (control self.new).pos }
     {
-        let many = self.procs[8 * f as usize + 1];
-        self.enter(f);
+        let many = self.tables.procs[PROC_WORDS * f as usize + MANY];
+        let next = self.enter(f);
         self.blank(given, many);
+        next
     }
 
     // A call of a procedure, with its arguments after the first four words.
-    pub(crate) fn call(&mut self, dest: Var, f: u32, many: u32) -> Result<(), Halt>
+    pub(crate) fn call(&mut self, at: usize, dest: Var, f: u32, many: u32) -> Result<usize, Halt>
+        requires at { at ≡ (control self.old).pos }
         requires can { CanStep (List Arg) (call_s dest.0 f) (control self.old) (memory self.old) }
         requires many { many ≡ slice_index (control self.old).code.rows ((control self.old).pos + 3) }
-        ensures stepped { Stepped (List Arg) (call_s dest.0 f) (control self.old) (memory self.old) (control self.new) (memory self.new) result }
+        ensures stepped { Stepped (List Arg) (call_s dest.0 f) (control self.old) (memory self.old) (control self.new) (memory self.new) (halted result) }
         ensures kept { Kept (control self.old) (control self.new) }
+        ensures next { Next (control self.new) result }
     {
         if self.depth == 0 {
             return Err(Halt::Deep);
         }
-        let at = self.pos + 4;
-        self.pass_arguments(at, many);
+        self.pass_arguments(at + 4, many);
         if self.turns == 0 {
             return Err(Halt::Spent);
         }
         self.turns -= 1;
-        self.suspend(dest);
-        self.open(f, many);
-        Ok(())
+        self.suspend(at, dest);
+        Ok(self.open(f, many))
     }
 }

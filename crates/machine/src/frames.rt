@@ -5,6 +5,16 @@ ghost use Rattle.machine.specs.Operations.{CanTake, TookOut, CanPut, PutIn, CanP
 use crate::machine::Machine;
 use owned::names::{CellIndex, Kind, Var};
 
+// How many words a frame has: 32 for variables, then where a caller goes on, its number, and its variable for the
+// result.
+pub(crate) const FRAME_WORDS: usize = 40;
+
+pub(crate) const RESUME: usize = 32;
+
+pub(crate) const PROCEDURE: usize = 33;
+
+pub(crate) const DEST: usize = 34;
+
 impl<'a> Machine<'a> {
     // The word of a variable.
     pub(crate) fn load(&self, x: Var) -> u32
@@ -42,14 +52,18 @@ impl<'a> Machine<'a> {
         word
     }
 
-    // Puts a value into a variable, and gives back what was there.
+    // Puts a value into a variable, and gives back what was there: of a number, nothing.
     pub(crate) fn put(&mut self, x: Var, word: u32)
         requires { CanPut (control self.old) (memory self.old) x.0 word }
         ensures { PutIn (control self.old) (memory self.old) x.0 word (control self.new) (memory self.new) }
     {
         let kind = self.kind_of(x);
+        if kind.0 == 0 {
+            self.store(x, word);
+            return;
+        }
         let old = self.load(x);
-        self.release(kind, old);
+        self.cells.release(kind, old);
         self.store(x, word);
     }
 

@@ -3,34 +3,33 @@ ghost use Rattle.owned.specs.Program.{S};
 ghost use Rattle.owned.specs.Decode.{head_by, variable};
 ghost use Rattle.owned.specs.declared.decode.Statement.TheVariants.{Between};
 ghost use Rattle.machine.specs.Memory.{control, memory};
-ghost use Rattle.machine.specs.Steps.{CanStep, Stepped, Kept, any_s};
+ghost use Rattle.machine.specs.Steps.{CanStep, Stepped, Kept, Next, halted, any_s};
+ghost use Rattle.machine.specs.Running.{CanAdvance, Advanced, Onward, CanRun, CameOut, CanStart, Ran};
 
+use crate::cells::Cells;
+use crate::frames::FRAME_WORDS;
+use crate::tables::Tables;
 use owned::decode::{Statement, Transfer};
 use owned::names::Var;
 
-// The program with its tables, and lent memory. Frames have 40 words each: 32 variables, then where the procedure goes
-// on once the one it called returns, its number, and the variable for the result.
+// A program that runs in lent memory: there is no heap, so boxes are cells by their numbers, and open procedures are
+// frames of words. `count` and `over` stand beside `shown`, and not in a struct with it: `shown` is lent for another
+// time than the rest, and a field that is a struct takes no borrow of another lifetime.
 #[derive(Drop)]
 pub struct Machine<'a> {
     pub rows: &'a [u32],
-    pub follow: &'a [u32],
-    pub inner: &'a [u32],
-    pub other: &'a [u32],
-    pub procs: &'a [u32],
-    pub contents: &'a mut [u32],
-    pub links: &'a mut [u32],
+    pub tables: Tables<'a>,
+    pub cells: Cells<'a>,
     pub frames: &'a mut [u32],
     pub shown: &'a mut [u32],
-    pub head: u32,
-    pub cells: u32,
+    pub count: usize,
+    pub over: bool,
     pub pos: usize,
     pub kinds: usize,
     pub base: usize,
     pub procedure: u32,
     pub depth: u32,
     pub turns: u64,
-    pub count: usize,
-    pub over: bool,
 }
 
 // Why a run stops before its end: no cell is free, no turn is left, or too many calls are open.
@@ -39,6 +38,19 @@ pub enum Halt {
     Full,
     Spent,
     Deep,
+}
+
+// What a step comes to: the run goes on at this place, or it is done and this is its result.
+#[derive(Clone, Copy, Debug, PartialEq, Eq)]
+pub enum Progress {
+    Going(usize),
+    Done(u32),
+}
+
+// Who looks at the machine after each step after which a run goes on. A closure would ask of who runs a program that it
+// may be called, as the public entry points must not.
+pub trait Observer {
+    fn see(&mut self, machine: &Machine<'_>);
 }
 
 impl<'a> Machine<'a> {
@@ -50,31 +62,31 @@ impl<'a> Machine<'a> {
         self.rows[at]
     }
 
-    // A statement with a destination and a source, at the machine's place.
-    fn between(&self, what: Transfer) -> Statement
-        requires { (control self.now).pos + 2 < length (control self.now).code.rows }
-        ensures { result ≡ Between what (variable (slice_index (control self.now).code.rows ((control self.now).pos + 1))) (variable (slice_index (control self.now).code.rows ((control self.now).pos + 2))) }
+    // A statement with a destination and a source, at a place.
+    fn between(&self, at: usize, what: Transfer) -> Statement
+        requires { at + 2 < length (control self.now).code.rows }
+        ensures { result ≡ Between what (variable (slice_index (control self.now).code.rows (at + 1))) (variable (slice_index (control self.now).code.rows (at + 2))) }
     {
-        let x = self.word(self.pos + 1);
-        let y = self.word(self.pos + 2);
+        let x = self.word(at + 1);
+        let y = self.word(at + 2);
         Statement::Between(what, Var(x), Var(y))
     }
 
     // The statement at the machine's place, without the parts that follow it. It is no pair.
-    fn statement(&self) -> Statement
-        requires { CanStep S any_s (control self.now) (memory self.now) }
+    fn statement(&self, at: usize) -> Statement
+        requires at { at ≡ (control self.now).pos }
+        requires can { CanStep S any_s (control self.now) (memory self.now) }
         ensures { head_by (slice_index (control self.now).code.rows (control self.now).pos) (slice_index (control self.now).code.rows ((control self.now).pos + 1)) (slice_index (control self.now).code.rows ((control self.now).pos + 2)) (slice_index (control self.now).code.rows ((control self.now).pos + 3)) ≡ Some result }
     {
-        let at = self.pos;
         match self.rows[at] {
             0 => Statement::Skip,
             1 => Statement::Then,
             2 => Statement::Set(Var(self.word(at + 1))),
-            3 => self.between(Transfer::Box),
-            4 => self.between(Transfer::Unbox),
-            5 => self.between(Transfer::Look),
-            6 => self.between(Transfer::Fill),
-            7 => self.between(Transfer::Move),
+            3 => self.between(at, Transfer::Box),
+            4 => self.between(at, Transfer::Unbox),
+            5 => self.between(at, Transfer::Look),
+            6 => self.between(at, Transfer::Fill),
+            7 => self.between(at, Transfer::Move),
             8 => Statement::Drop(Var(self.word(at + 1))),
             9 => Statement::If,
             10 => Statement::While,
@@ -83,35 +95,98 @@ impl<'a> Machine<'a> {
         }
     }
 
-    // One step: a statement that is no end of a procedure.
-    pub(crate) fn step(&mut self) -> Result<(), Halt>
-        requires { CanStep S any_s (control self.old) (memory self.old) }
-        ensures stepped { Stepped S any_s (control self.old) (memory self.old) (control self.new) (memory self.new) result }
+    // The statement at the machine's place.
+    fn execute(&mut self, at: usize) -> Result<usize, Halt>
+        requires at { at ≡ (control self.old).pos }
+        requires can { CanStep S any_s (control self.old) (memory self.old) }
+        ensures stepped { Stepped S any_s (control self.old) (memory self.old) (control self.new) (memory self.new) (halted result) }
         ensures kept { Kept (control self.old) (control self.new) }
+        ensures next { Next (control self.new) result }
     {
-        let at = self.pos;
-        match self.statement() {
-            Statement::Skip | Statement::Then => self.proceed(),
+        match self.statement(at) {
+            Statement::Skip | Statement::Then => Ok(self.proceed(at)),
             Statement::Set(x) => {
                 self.set_number(x, at + 2);
-                self.proceed();
+                Ok(self.proceed(at))
             }
-            Statement::Between(what, x, y) => match self.transfer(what, x, y) {
-                Ok(()) => self.proceed(),
-                Err(halt) => return Err(halt),
-            },
+            Statement::Between(what, x, y) => {
+                self.transfer(what, x, y)?;
+                Ok(self.proceed(at))
+            }
             Statement::Drop(x) => {
                 self.drop_value(x);
-                self.proceed();
+                Ok(self.proceed(at))
             }
-            Statement::If => self.branch(),
-            Statement::While => return self.repeat(),
-            Statement::Call(x, f, many) => return self.call(x, f, many),
+            Statement::If => Ok(self.branch(at)),
+            Statement::While => self.repeat(at),
+            Statement::Call(x, f, many) => self.call(at, x, f, many),
             Statement::Show => {
                 self.show(at + 1);
-                self.proceed();
+                Ok(self.proceed(at))
             }
         }
-        Ok(())
+    }
+
+    // One step of a run: the next statement, the end of a procedure that was called, or the end of the first. The
+    // machine's place is handed from step to step, so that it stays in a register: a step need not load what the step
+    // before it stored.
+    pub fn step(&mut self, at: usize) -> Result<Progress, Halt>
+        requires at { at ≡ (control self.old).pos }
+        requires can { CanAdvance (control self.old) (memory self.old) }
+        ensures advanced { Advanced (control self.old) (memory self.old) (control self.new) (memory self.new) result }
+        ensures kept { Kept (control self.old) (control self.new) }
+        ensures next { Onward (control self.new) result }
+    {
+        if at < self.rows.len() {
+            return Ok(Progress::Going(self.execute(at)?));
+        }
+        if self.base > FRAME_WORDS {
+            return Ok(Progress::Going(self.leave()));
+        }
+        self.finish();
+        Ok(Progress::Done(self.result()))
+    }
+
+    // Runs on, in so many steps at most. Gives the result, which is a number.
+    fn run_on<O: Observer>(
+        &mut self,
+        at: usize,
+        budget: u128,
+        observer: &mut O,
+    ) -> Result<u32, Halt>
+        requires at { at ≡ (control self.old).pos }
+        requires can { CanRun budget (control self.old) (memory self.old) }
+        ensures came { CameOut budget (control self.old) (memory self.old) (control self.new) result }
+        ensures kept { Kept (control self.old) (control self.new) }
+    {
+        let mut left = budget;
+        let mut at = at;
+        loop {
+            match self.step(at)? {
+                Progress::Going(next) => {
+                    left -= 1;
+                    at = next;
+                }
+                Progress::Done(result) => return Ok(result),
+            }
+            observer.see(self);
+        }
+    }
+
+    // Runs a whole program, from its first procedure on, in so many steps at most. Gives the result, which is a number.
+    pub fn run<O: Observer>(&mut self, budget: u128, observer: &mut O) -> Result<u32, Halt>
+        requires { CanStart budget (control self.old) (memory self.old) }
+        ensures came { Ran budget (control self.old) (memory self.old) (control self.new) result }
+        ensures kept { Kept (control self.old) (control self.new) }
+    {
+        if self.depth == 0 {
+            return Err(Halt::Deep);
+        }
+        if self.turns == 0 {
+            return Err(Halt::Spent);
+        }
+        self.turns -= 1;
+        let at = self.open(0, 0);
+        self.run_on(at, budget, observer)
     }
 }

@@ -3,7 +3,9 @@ ghost use Rattle.machine.specs.Memory.{control, memory, left};
 ghost use Rattle.machine.specs.Steps.{Kept};
 ghost use Rattle.machine.specs.Calls.{CanClose, Closed, CanLeave, Left};
 
+use crate::frames::{DEST, FRAME_WORDS, PROCEDURE, RESUME};
 use crate::machine::Machine;
+use linker::{MANY, PROC_WORDS, RELEASED, RESULT};
 use owned::names::Var;
 
 impl<'a> Machine<'a> {
@@ -12,18 +14,19 @@ impl<'a> Machine<'a> {
         requires { CanClose (control self.old) (memory self.old) }
         ensures { Closed (control self.old) (memory self.old) (control self.new) (memory self.new) }
     {
-        let row = 8 * self.procedure as usize;
-        let many = self.procs[row + 1];
-        let mut mask = self.procs[row + 4];
-        let mut x: u32 = 0;
-        while x < many && mask > 0 {
+        let row = PROC_WORDS * self.procedure as usize;
+        let many = self.tables.procs[row + MANY];
+        let mut mask = self.tables.procs[row + RELEASED];
+        for x in 0..many {
+            if mask == 0 {
+                break;
+            }
             if mask % 2 == 1 {
                 let kind = self.kind_of(Var(x));
                 let word = self.load(Var(x));
-                self.release(kind, word);
+                self.cells.release(kind, word);
             }
             mask /= 2;
-            x += 1;
         }
     }
 
@@ -33,7 +36,7 @@ impl<'a> Machine<'a> {
         requires there { (control self.now).base + slice_index (control self.now).code.procs (8 * (control self.now).procedure + 2) < length (memory self.now).frames }
         ensures { result ≡ slice_index (memory self.now).frames ((control self.now).base + slice_index (control self.now).code.procs (8 * (control self.now).procedure + 2)) }
     {
-        let x = Var(self.procs[8 * self.procedure as usize + 2]);
+        let x = Var(self.tables.procs[PROC_WORDS * self.procedure as usize + RESULT]);
         self.load(x)
     }
 
@@ -47,25 +50,28 @@ impl<'a> Machine<'a> {
         ensures same { memory self.new ≡ memory self.old }
         ensures dest { result.0 ≡ slice_index (memory self.old).frames ((control self.old).base - 40 + 34) }
     {
-        let base = self.base - 40;
-        let procedure = self.frames[base + 33];
+        let base = self.base - FRAME_WORDS;
+        let procedure = self.frames[base + PROCEDURE];
         self.base = base;
-        self.pos = self.frames[base + 32] as usize;
+        self.pos = self.frames[base + RESUME] as usize;
         self.procedure = procedure;
-        self.kinds = self.procs[8 * procedure as usize] as usize;
+        self.kinds = self.tables.procs[PROC_WORDS * procedure as usize] as usize;
         self.depth += 1;
-        Var(self.frames[base + 34])
+        Var(self.frames[base + DEST])
     }
 
     // The end of a procedure that was called: its result goes to the caller.
-    pub(crate) fn leave(&mut self)
+    pub(crate) fn leave(&mut self) -> usize
         requires { CanLeave (control self.old) (memory self.old) }
         ensures stepped { Left (control self.old) (memory self.old) (control self.new) (memory self.new) }
         ensures kept { Kept (control self.old) (control self.new) }
+        ensures next { result ≡ (control self.new).pos }
     {
         self.finish();
         let word = self.result();
         let dest = self.resume();
+        let next = self.pos;
         self.put(dest, word);
+        next
     }
 }

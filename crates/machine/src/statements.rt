@@ -1,7 +1,7 @@
 ghost use Rattle.std.specs.Prelude.{◌≡◌};
 ghost use Rattle.owned.specs.Decode.{between};
 ghost use Rattle.owned.specs.declared.decode.Transfer.TheVariants.{Box, Unbox, Look, Fill, Move};
-ghost use Rattle.machine.specs.Memory.{control, memory, shows};
+ghost use Rattle.machine.specs.Memory.{control, memory, with_output, shows};
 ghost use Rattle.machine.specs.Operations.{CanDo, Did, CanDoAt, DidAt, Showed, Transferred, set_s, drop_s, show_s};
 
 use crate::machine::{Halt, Machine};
@@ -14,7 +14,7 @@ impl<'a> Machine<'a> {
         requires { CanDoAt (control self.old) (memory self.old) (set_s x.0) at }
         ensures { DidAt (control self.old) (memory self.old) (set_s x.0) at (control self.new) (memory self.new) }
     {
-        let (word, _) = self.operand(at);
+        let word = self.value(at);
         self.store(x, word);
     }
 
@@ -25,9 +25,7 @@ impl<'a> Machine<'a> {
         ensures done { Transferred (control self.old) (memory self.old) (between Box x.0 y.0) (control self.new) (memory self.new) result }
     {
         let word = self.take(y);
-        let Some(made) = self.allocate(word) else {
-            return Err(Halt::Full);
-        };
+        let made = self.cells.allocate(word).ok_or(Halt::Full)?;
         self.put(x, made);
         Ok(())
     }
@@ -38,8 +36,8 @@ impl<'a> Machine<'a> {
         ensures { Did (control self.old) (memory self.old) (between Unbox x.0 y.0) (control self.new) (memory self.new) }
     {
         let cell = self.cell_of(y);
-        let word = self.contents[cell.0 as usize];
-        self.free_cell(cell);
+        let word = self.cells.contents[cell.0 as usize];
+        self.cells.give_back(cell);
         self.store(y, 0);
         self.put(x, word);
     }
@@ -50,7 +48,7 @@ impl<'a> Machine<'a> {
         ensures { Did (control self.old) (memory self.old) (between Look x.0 y.0) (control self.new) (memory self.new) }
     {
         let cell = self.cell_of(y);
-        let word = self.contents[cell.0 as usize];
+        let word = self.cells.contents[cell.0 as usize];
         self.store(x, word);
     }
 
@@ -62,9 +60,9 @@ impl<'a> Machine<'a> {
         let cell = self.cell_of(x);
         let word = self.take(y);
         let kind = self.kind_of(y);
-        let old = self.contents[cell.0 as usize];
-        self.release(kind, old);
-        self.contents[cell.0 as usize] = word;
+        let old = self.cells.contents[cell.0 as usize];
+        self.cells.release(kind, old);
+        self.cells.contents[cell.0 as usize] = word;
     }
 
     // x := y, which is handed over
@@ -100,9 +98,10 @@ impl<'a> Machine<'a> {
         self.put(x, 0);
     }
 
-    // Writes a number after those shown, or notes that there is no room for it.
+    // Writes a number after those shown, or notes that there is no room for it: the run goes on, since whether it ends
+    // well has to be known before that is said.
     fn write_number(&mut self, word: u32)
-        ensures here { control self.new ≡ shows (control self.old) word }
+        ensures here { control self.new ≡ with_output (control self.old) (shows (control self.old).output word) }
         ensures same { memory self.new ≡ memory self.old }
     {
         if self.count < self.shown.len() {
@@ -118,7 +117,7 @@ impl<'a> Machine<'a> {
         requires { CanDoAt (control self.old) (memory self.old) show_s at }
         ensures { Showed (control self.old) (memory self.old) at (control self.new) (memory self.new) }
     {
-        let (word, _) = self.operand(at);
+        let word = self.value(at);
         self.write_number(word);
     }
 }

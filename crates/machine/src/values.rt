@@ -1,6 +1,6 @@
-ghost use Rattle.std.specs.Prelude.{◌≡◌, ◌+◌, ◌<◌, ◌≤◌, length, slice_index};
+ghost use Rattle.std.specs.Prelude.{◌≡◌, ◌+◌, ◌<◌, ◌≤◌, false, length, slice_index};
 ghost use Rattle.machine.specs.Memory.{control, memory};
-ghost use Rattle.machine.specs.Operations.{CanEvaluate, Evaluated, combined};
+ghost use Rattle.machine.specs.Operations.{CanEvaluate, Evaluated, combined, nests};
 
 use crate::machine::Machine;
 use owned::names::Var;
@@ -23,8 +23,7 @@ impl<'a> Machine<'a> {
     fn leaf(&self, at: usize) -> u32
         requires can { CanEvaluate (control self.now) (memory self.now) at }
         requires leaf { slice_index (control self.now).code.rows at < 2 }
-        requires room { at + 1 < length (control self.now).code.rows }
-        ensures { Evaluated (control self.now) (memory self.now) at (result, at + 2) }
+        ensures { Evaluated (control self.now) (memory self.now) at result }
     {
         let word = self.rows[at + 1];
         if self.rows[at] == 0 {
@@ -34,28 +33,58 @@ impl<'a> Machine<'a> {
         }
     }
 
-    // The value of the expression at a place, and where it ends.
-    #[cycle(nested_operand)]
-    pub(crate) fn operand(&self, at: usize) -> (u32, usize)
+    // Whether an operand of the expression at a place has operands itself.
+    fn is_nested(&self, at: usize) -> bool
         requires { CanEvaluate (control self.now) (memory self.now) at }
+        ensures { result ≡ nests (control self.now).code.rows at }
+    {
+        self.rows[at] >= 2 && (self.rows[at + 1] >= 2 || self.rows[at + 3] >= 2)
+    }
+
+    // The value of an expression that is a leaf, or has two leaves for operands.
+    fn shallow(&self, at: usize) -> u32
+        requires can { CanEvaluate (control self.now) (memory self.now) at }
+        requires shallow { nests (control self.now).code.rows at ≡ false }
         ensures { Evaluated (control self.now) (memory self.now) at result }
     {
         if self.rows[at] < 2 {
-            (self.leaf(at), at + 2)
-        } else {
-            self.nested(at)
+            return self.leaf(at);
         }
+        let a = self.leaf(at + 1);
+        let b = self.leaf(at + 3);
+        combine(self.rows[at], a, b)
     }
 
-    // The same where two operands follow.
-    #[cycle(nested_operand)]
-    fn nested(&self, at: usize) -> (u32, usize)
+    // The value of an expression with operands. It calls nothing but itself that could call it back, so that all else
+    // can be inlined.
+    fn nested(&self, at: usize) -> u32
         requires can { CanEvaluate (control self.now) (memory self.now) at }
-        requires nested { 2 ≤ slice_index (control self.now).code.rows at }
+        requires operator { 2 ≤ slice_index (control self.now).code.rows at }
         ensures { Evaluated (control self.now) (memory self.now) at result }
     {
-        let (a, middle) = self.operand(at + 1);
-        let (b, end) = self.operand(middle);
-        (combine(self.rows[at], a, b), end)
+        let right = self.tables.inner[at] as usize;
+        let a = if self.is_nested(at + 1) {
+            self.nested(at + 1)
+        } else {
+            self.shallow(at + 1)
+        };
+        let b = if self.is_nested(right) {
+            self.nested(right)
+        } else {
+            self.shallow(right)
+        };
+        combine(self.rows[at], a, b)
+    }
+
+    // The value of the expression at a place.
+    pub(crate) fn value(&self, at: usize) -> u32
+        requires { CanEvaluate (control self.now) (memory self.now) at }
+        ensures { Evaluated (control self.now) (memory self.now) at result }
+    {
+        if self.is_nested(at) {
+            self.nested(at)
+        } else {
+            self.shallow(at)
+        }
     }
 }

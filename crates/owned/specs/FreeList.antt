@@ -1,6 +1,6 @@
 -- The free cells chained in ascending order through one link word for each cell.
 use Rattle.std.specs.Prelude.{◌≡◌, ℕ, zero, suc, ◌+◌, ◌<◌, ◌≤◌, List, [], ◌∷◌, length, drop, Some, None, Option, slice_index, slice_index_or, slice_set}
-use Rattle.owned.specs.declared.cells.Taken.{Taken}
+use Rattle.owned.specs.declared.names.CellIndex.{CellIndex}
 use Rattle.owned.specs.Runs.{Val, nothing, Cell, free, holds, first}
 
 -- the first free cell that is not before i, or how many cells there are
@@ -26,15 +26,15 @@ pub record FreeList (links : List ℕ) (head : ℕ) (cs : List Cell) : Type 0 wh
   pub next : (a : ℕ) → FreeAt cs a → slice_index links a ≡ next_free cs (a + 1)
 
 -- the cell that a new box gets, and the free list once it is in use, whatever it holds
-pub record FirstFree (links : List ℕ) (cs : List Cell) (t : Taken) : Type 0 where
-  pub chosen : first cs 0 ≡ Some t.cell.0
-  pub within : t.cell.0 < length cs
-  pub left : (b : ℕ) (v : Val) → FreeList links t.rest (slice_set cs t.cell.0 (holds b v))
+pub record FirstFree (links : List ℕ) (rest : ℕ) (cs : List Cell) (a : ℕ) : Type 0 where
+  pub chosen : first cs 0 ≡ Some a
+  pub within : a < length cs
+  pub left : (b : ℕ) (v : Val) → FreeList links rest (slice_set cs a (holds b v))
 
--- nothing exactly where no cell is free
-abbrev pub TakenFirst : List ℕ → List Cell → Option Taken → Type 0
-TakenFirst links cs None = first cs 0 ≡ None
-TakenFirst links cs (Some t) = FirstFree links cs t
+-- nothing exactly where no cell is free, and then the head stays
+abbrev pub TakenFirst : List ℕ → ℕ → ℕ → List Cell → Option CellIndex → Type 0
+TakenFirst links head rest cs None = (first cs 0 ≡ None) × (rest ≡ head)
+TakenFirst links head rest cs (Some cell) = FirstFree links rest cs cell.0
 
 -- the free list with one more cell; the words past the last link stay
 pub record GivenBack (links links' : List ℕ) (head : ℕ) (cs : List Cell) (a : ℕ) : Type 0 where

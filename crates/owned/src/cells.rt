@@ -4,54 +4,64 @@ ghost use Rattle.owned.specs.FreeList.{FreeList, InUse, TakenFirst, GivenBack};
 
 use crate::names::CellIndex;
 
-// The first free cell, and the head of the free list without it.
-#[derive(Clone, Copy)]
-pub struct Taken {
-    pub cell: CellIndex,
-    pub rest: u32,
+// The free ones of so many cells, in ascending order: the head is the first, and the link of each is the next. The links
+// lie in lent words: there is no heap.
+#[derive(Drop)]
+pub struct FreeCells<'a> {
+    pub links: &'a mut [u32],
+    pub head: u32,
+    pub cells: u32,
 }
 
-// Links so many cells, all free, in order. Gives the head of the list.
-pub fn link_all(links: &mut [u32], cells: u32) -> u32
-    requires { cells ≤ length links.old }
-    ensures list { FreeList links.new result (replicate cells free) }
-    ensures past { drop cells links.new ≡ drop cells links.old }
-{
-    for cell in 0..cells {
-        links[cell as usize] = cell + 1;
+impl<'a> FreeCells<'a> {
+    // So many cells, all free.
+    pub fn new(links: &'a mut [u32], cells: u32) -> FreeCells<'a>
+        requires { cells ≤ length links.old }
+        ensures list { FreeList result.links.now result.head (replicate cells free) }
+        ensures many { result.cells ≡ cells }
+        ensures past { drop cells result.links.now ≡ drop cells links.old }
+    {
+        for cell in 0..cells {
+            links[cell as usize] = cell + 1;
+        }
+        FreeCells {
+            links,
+            head: 0,
+            cells,
+        }
     }
-    0
-}
 
-// The first of so many cells that is free, if any is.
-pub fn take_first(links: &[u32], head: u32, cells: u32) -> Option<Taken>
-    requires { (cs : List Cell) × FreeList links.now head cs × (length cs ≡ cells) }
-    ensures { (cs : List Cell) → FreeList links.now head cs → length cs ≡ cells → TakenFirst links.now cs result }
-{
-    if head == cells {
-        return None;
+    // Takes the first free cell, if any is.
+    pub fn take_first(&mut self) -> Option<CellIndex>
+        requires { (cs : List Cell) × FreeList self.old.links.now self.old.head cs × (length cs ≡ self.old.cells) }
+        ensures first { (cs : List Cell) → FreeList self.old.links.now self.old.head cs → length cs ≡ self.old.cells → TakenFirst self.new.links.now self.old.head self.new.head cs result }
+        ensures same { self.new.links.now ≡ self.old.links.now }
+        ensures many { self.new.cells ≡ self.old.cells }
+    {
+        if self.head == self.cells {
+            return None;
+        }
+        let cell = CellIndex(self.head);
+        self.head = self.links[cell.0 as usize];
+        Some(cell)
     }
-    let rest = links[head as usize];
-    Some(Taken {
-        cell: CellIndex(head),
-        rest,
-    })
-}
 
-// Puts a cell that is in use back into its place in the free list. Gives the list's head.
-pub fn give_back(links: &mut [u32], head: u32, cell: CellIndex) -> u32
-    requires { (cs : List Cell) × FreeList links.old head cs × InUse cs cell.0 }
-    ensures { (cs : List Cell) → FreeList links.old head cs → InUse cs cell.0 → GivenBack links.old links.new result cs cell.0 }
-{
-    if cell.0 < head {
-        links[cell.0 as usize] = head;
-        return cell.0;
+    // Puts a cell that is in use back into its place in the list.
+    pub fn give_back(&mut self, cell: CellIndex)
+        requires { (cs : List Cell) × FreeList self.old.links.now self.old.head cs × InUse cs cell.0 }
+        ensures back { (cs : List Cell) → FreeList self.old.links.now self.old.head cs → InUse cs cell.0 → GivenBack self.old.links.now self.new.links.now self.new.head cs cell.0 }
+        ensures many { self.new.cells ≡ self.old.cells }
+    {
+        if cell.0 < self.head {
+            self.links[cell.0 as usize] = self.head;
+            self.head = cell.0;
+            return;
+        }
+        let mut before = self.head;
+        while self.links[before as usize] < cell.0 {
+            before = self.links[before as usize];
+        }
+        self.links[cell.0 as usize] = self.links[before as usize];
+        self.links[before as usize] = cell.0;
     }
-    let mut before = head;
-    while links[before as usize] < cell.0 {
-        before = links[before as usize];
-    }
-    links[cell.0 as usize] = links[before as usize];
-    links[before as usize] = cell.0;
-    head
 }

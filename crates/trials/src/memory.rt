@@ -12,8 +12,8 @@ pub fn frame_word(machine: &Machine, at: usize) -> Option<u32> {
 // What is in a cell.
 pub fn content(machine: &Machine, cell: u32) -> Option<u32> {
     let at = cell as usize;
-    if at < machine.contents.len() {
-        Some(machine.contents[at])
+    if at < machine.cells.contents.len() {
+        Some(machine.cells.contents[at])
     } else {
         None
     }
@@ -22,8 +22,8 @@ pub fn content(machine: &Machine, cell: u32) -> Option<u32> {
 // The free cell after one.
 fn next_free(machine: &Machine, cell: u32) -> Option<u32> {
     let at = cell as usize;
-    if at < machine.links.len() {
-        Some(machine.links[at])
+    if at < machine.cells.free.links.len() {
+        Some(machine.cells.free.links[at])
     } else {
         None
     }
@@ -40,10 +40,10 @@ pub fn shown_number(machine: &Machine, at: usize) -> Option<u32> {
 
 // How many cells are free, if the list of them goes up to its end.
 pub fn free_cells(machine: &Machine) -> Option<usize> {
-    let mut at = machine.head;
+    let mut at = machine.cells.free.head;
     let mut count = 0usize;
-    for _ in 0..machine.cells {
-        if at < machine.cells {
+    for _ in 0..machine.cells.free.cells {
+        if at < machine.cells.free.cells {
             let next = next_free(machine, at)?;
             if next <= at {
                 return None;
@@ -52,7 +52,7 @@ pub fn free_cells(machine: &Machine) -> Option<usize> {
             count = count.saturating_add(1);
         }
     }
-    if at == machine.cells {
+    if at == machine.cells.free.cells {
         Some(count)
     } else {
         None

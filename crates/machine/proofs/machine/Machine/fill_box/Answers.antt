@@ -1,4 +1,3 @@
-use Rattle.std.proofs.Common.{refl}
 use Rattle.machine.proofs.Performing.{fill_point, fill_take, fill_kind, fill_room, fill_release, fill_index, fill_done}
 use Rattle.machine.proofs.machine.Machine.fill_box.Goals as goal
 
@@ -18,7 +17,7 @@ pub release-requires : goal.release-requires
 release-requires c = fill_release c.cell_of-cell.ensures c.take-word.ensures c.kind_of-kind.ensures c.requires
 
 pub bounds-self-cell-2 : goal.bounds-self-cell-2
-bounds-self-cell-2 c = fill_index c.cell_of-cell.ensures c.take-word.ensures c.kind_of-kind.ensures c.release.ensures.here c.release.ensures.released c.requires
+bounds-self-cell-2 c = fill_index c.cell_of-cell.ensures c.take-word.ensures c.kind_of-kind.ensures c.release.ensures c.requires
 
 pub returns : goal.returns
-returns c = fill_done c.cell_of-cell.ensures c.take-word.ensures c.kind_of-kind.ensures c.release.ensures.here c.release.ensures.released refl refl
+returns c = fill_done c.cell_of-cell.ensures c.take-word.ensures c.kind_of-kind.ensures c.release.ensures

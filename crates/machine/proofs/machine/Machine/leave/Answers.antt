@@ -1,4 +1,5 @@
-use Rattle.std.proofs.Common.{refl}
+use Rattle.std.proofs.Common.{sym, refl, ap}
+use Rattle.machine.specs.Memory.{Control}
 use Rattle.machine.proofs.Returning.{leave_finish, leave_result, leave_resume, leave_put, leave_done, leave_kept}
 use Rattle.machine.proofs.machine.Machine.leave.Goals as goal
 
@@ -18,4 +19,5 @@ pub returns : goal.returns
 returns c = record {
   stepped = leave_done c.finish.ensures refl refl c.result-word.ensures c.resume-dest.ensures.here c.resume-dest.ensures.same c.resume-dest.ensures.dest c.put.ensures;
   kept = leave_kept c.finish.ensures refl refl c.result-word.ensures c.resume-dest.ensures.here c.resume-dest.ensures.same c.resume-dest.ensures.dest c.put.ensures;
+  next = sym (ap (λ (z : Control). z.pos) c.put.ensures.here);
 }

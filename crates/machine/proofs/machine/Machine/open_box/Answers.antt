@@ -7,14 +7,14 @@ cell_of-cell-requires c = unbox_point c.requires
 pub bounds-self-cell : goal.bounds-self-cell
 bounds-self-cell c = unbox_room c.cell_of-cell.ensures c.requires
 
-pub free_cell-requires : goal.free_cell-requires
-free_cell-requires c = unbox_in_use c.cell_of-cell.ensures c.requires
+pub give_back-requires : goal.give_back-requires
+give_back-requires c = unbox_in_use c.cell_of-cell.ensures c.requires
 
 pub store-requires : goal.store-requires
-store-requires c = unbox_there c.cell_of-cell.ensures c.free_cell.ensures.here c.free_cell.ensures.freed c.requires
+store-requires c = unbox_there c.cell_of-cell.ensures c.give_back.ensures c.requires
 
 pub put-requires : goal.put-requires
-put-requires c = unbox_put c.cell_of-cell.ensures c.free_cell.ensures.here c.free_cell.ensures.freed c.store.ensures.here c.store.ensures.stored c.requires
+put-requires c = unbox_put c.cell_of-cell.ensures c.give_back.ensures c.store.ensures.here c.store.ensures.stored c.requires
 
 pub returns : goal.returns
-returns c = unbox_done c.cell_of-cell.ensures c.free_cell.ensures.here c.free_cell.ensures.freed c.store.ensures.here c.store.ensures.stored c.put.ensures
+returns c = unbox_done c.cell_of-cell.ensures c.give_back.ensures c.store.ensures.here c.store.ensures.stored c.put.ensures

@@ -1,68 +1,31 @@
-use Rattle.std.proofs.Common.{Some, Ok, refl, ap, ◌∙◌, inl, inr}
-use Rattle.machine.specs.Memory.{Control, control, memory}
-use Rattle.machine.proofs.Branching.{kept_same}
-use Rattle.machine.proofs.Stepping.{if_can, if_done, while_can, while_done, call_can, call_many, call_done, on_kept, room_on, transfer_can, transfer_done, transfer_err, drop_can, drop_done, skip_done, no_pair, set_can, set_done, show_can, show_done, show_kept, show_room}
+use Rattle.std.proofs.Common.{arith}
+use Rattle.std.proofs.lemmas.Result.{err_from_is_err_and}
+use Rattle.machine.specs.Memory.{control, memory}
+use Rattle.machine.proofs.Advancing.{step_execute, executed_on, executed_halt, step_leave, left_on, step_finish, step_result, finished, finished_kept}
 use Rattle.machine.proofs.machine.Machine.step.Goals as goal
 
-pub set_number-requires : goal.set_number-requires
-set_number-requires c = set_can c.in-Set.x c.in-Set.ensures c.requires
+pub execute-requires : goal.execute-requires
+execute-requires c = record { at = c.requires.at; can = step_execute (omega arith) c.requires.can }
 
-pub proceed-requires-in-Set : goal.proceed-requires-in-Set
-proceed-requires-in-Set c = room_on c.set_number.ensures.here c.requires
+pub returns-then-at-self : goal.returns-then-at-self
+returns-then-at-self c = record { advanced = executed_on (omega arith) c.in_ok-execute.field-0 c.in_ok-execute.ensures.stepped; kept = c.in_ok-execute.ensures.kept; next = c.in_ok-execute.ensures.next }
 
-pub transfer-requires : goal.transfer-requires
-transfer-requires c = transfer_can c.in-Between.what c.in-Between.x c.in-Between.y c.in-Between.ensures c.requires
+pub returns-in_err-execute-clause-advanced : goal.returns-in_err-execute-clause-advanced
+returns-in_err-execute-clause-advanced c =
+    let p = err_from_is_err_and c.from_residual.result c.from_residual.ensures.1 in
+    rw (p.1, p.2) (executed_halt (omega arith) (control c.execute.new.self) (memory c.execute.new.self) c.in_err-execute.field-0.0 c.in_err-execute.ensures.stepped)
 
-pub drop_value-requires : goal.drop_value-requires
-drop_value-requires c = drop_can c.in-Drop.x c.in-Drop.ensures c.requires
+pub leave-requires : goal.leave-requires
+leave-requires c = step_leave (omega arith) (omega arith) c.requires.can
 
-pub branch-self-requires : goal.branch-self-requires
-branch-self-requires c = if_can c.in-If.ensures c.requires
+pub returns-then-self-gt-FRAME_WORDS : goal.returns-then-self-gt-FRAME_WORDS
+returns-then-self-gt-FRAME_WORDS c = record { advanced = left_on (omega arith) (omega arith) c.leave.result c.leave.ensures.stepped; kept = c.leave.ensures.kept; next = c.leave.ensures.next }
 
-pub repeat-requires : goal.repeat-requires
-repeat-requires c = while_can c.in-While.ensures c.requires
+pub finish-requires : goal.finish-requires
+finish-requires c = step_finish (omega arith) (omega arith) c.requires.can
 
-pub show-requires : goal.show-requires
-show-requires c = show_can c.in-Show.ensures c.requires
+pub result-requires : goal.result-requires
+result-requires c = let r = step_result (omega arith) (omega arith) c.finish.ensures c.requires.can in record { row = r.0; there = r.1 }
 
-pub call-requires : goal.call-requires
-call-requires c = record { can = call_can c.in-Call.x c.in-Call.f c.in-Call.many c.in-Call.ensures c.requires; many = call_many c.in-Call.x c.in-Call.f c.in-Call.many c.in-Call.ensures c.requires }
-
-pub returns-in-Skip : goal.returns-in-Skip
-returns-in-Skip c = record {
-  stepped = elim c.in-Skip.is [
-    | inl e ↦ skip_done (c.statement.ensures ∙ ap Some e) c.proceed.ensures.here c.proceed.ensures.same
-    | inr e ↦ no_pair (control c.proceed.new.self) (memory c.proceed.new.self) (Ok tt) (c.statement.ensures ∙ ap Some e)
-  ];
-  kept = on_kept refl c.proceed.ensures.here;
-}
-
-pub returns-in-Set : goal.returns-in-Set
-returns-in-Set c = record { stepped = set_done c.in-Set.x c.in-Set.ensures c.set_number.ensures c.proceed-in-Set.ensures.here c.proceed-in-Set.ensures.same; kept = on_kept c.set_number.ensures.here c.proceed-in-Set.ensures.here }
-
-pub returns-in-Ok : goal.returns-in-Ok
-returns-in-Ok c = record { stepped = transfer_done c.in-Between.what c.in-Between.x c.in-Between.y c.in-Between.ensures c.in-Ok.ensures.done c.proceed-in-Ok.ensures.here c.proceed-in-Ok.ensures.same; kept = on_kept c.in-Ok.ensures.here c.proceed-in-Ok.ensures.here }
-
-pub returns-in-Err : goal.returns-in-Err
-returns-in-Err c = record {
-  stepped = transfer_err c.in-Between.what c.in-Between.x c.in-Between.y (control c.transfer.new.self) (memory c.transfer.new.self) c.in-Err.halt c.in-Between.ensures c.in-Err.ensures.done;
-  kept = kept_same (ap (λ (z : Control). z.out) c.in-Err.ensures.here) (ap (λ (z : Control). z.shown) c.in-Err.ensures.here) (ap (λ (z : Control). z.count) c.in-Err.ensures.here);
-}
-
-pub returns-in-Drop : goal.returns-in-Drop
-returns-in-Drop c = record { stepped = drop_done c.in-Drop.x c.in-Drop.ensures c.drop_value.ensures c.proceed-in-Drop.ensures.here c.proceed-in-Drop.ensures.same; kept = on_kept c.drop_value.ensures.here c.proceed-in-Drop.ensures.here }
-
-pub returns-in-If : goal.returns-in-If
-returns-in-If c = record { stepped = if_done (control c.branch-self.new.self) (memory c.branch-self.new.self) (Ok tt) c.in-If.ensures c.branch-self.ensures.stepped; kept = c.branch-self.ensures.kept }
-
-pub returns-in-While : goal.returns-in-While
-returns-in-While c = record { stepped = while_done (control c.repeat.new.self) (memory c.repeat.new.self) c.repeat.result c.in-While.ensures c.repeat.ensures.stepped; kept = c.repeat.ensures.kept }
-
-pub returns-in-Call : goal.returns-in-Call
-returns-in-Call c = record { stepped = call_done c.in-Call.x c.in-Call.f c.in-Call.many (control c.call.new.self) (memory c.call.new.self) c.call.result c.in-Call.ensures c.call.ensures.stepped; kept = c.call.ensures.kept }
-
-pub proceed-requires-in-Show : goal.proceed-requires-in-Show
-proceed-requires-in-Show c = show_room c.show.ensures.word c.show.ensures.here c.requires
-
-pub returns-in-Show : goal.returns-in-Show
-returns-in-Show c = record { stepped = show_done c.in-Show.ensures c.show.ensures c.proceed-in-Show.ensures.here c.proceed-in-Show.ensures.same; kept = show_kept c.show.ensures.word c.show.ensures.here c.proceed-in-Show.ensures.here }
+pub returns : goal.returns
+returns c = record { advanced = finished (omega arith) (omega arith) c.finish.ensures c.result.ensures; kept = finished_kept (omega arith) (omega arith) c.finish.ensures; next = tt }

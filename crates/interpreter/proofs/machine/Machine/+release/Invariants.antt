@@ -1,4 +1,0 @@
-use Rattle.interpreter.proofs.machine.Machine.+release.Given as goal
-
-abbrev pub decreases-release : goal.decreases-release
-decreases-release l = l.kind.0

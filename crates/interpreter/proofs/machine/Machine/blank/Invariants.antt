@@ -1,6 +1,0 @@
-use Rattle.std.proofs.Common.{◌≤◌}
-use Rattle.interpreter.proofs.Opening.{Zeroed}
-use Rattle.interpreter.proofs.machine.Machine.blank.Given as goal
-
-abbrev pub invariant-loop-x : goal.invariant-loop-x
-invariant-loop-x l = (l.from ≤ l.x) × Zeroed l.base l.from l.x l.initial.frames l.frames

@@ -1,5 +1,0 @@
-use Rattle.std.proofs.Common.{◌-◌, length}
-use Rattle.machine.proofs.links.Linker.+link.Given as goal
-
-abbrev pub decreases-link : goal.decreases-link
-decreases-link l = length l.self.now.rows.now - l.at
