@@ -3,6 +3,9 @@
 ghost use Rattle.std.specs.Prelude.{◌≡◌, ◌==◌, ◌+◌, ◌≤◌, [], replicate, IfOk, Some, vec_len, OnOk};
 ghost use Rattle.input.specs.Scan.{is_white_space, grown, past, back, emptied, longer, finished, noted, Begun, Pushed, Taken, Ended, Parsed};
 
+mod exit;
+
+pub use exit::Exit;
 use std::alloc::Global;
 use std::fmt;
 use std::io::Read;
