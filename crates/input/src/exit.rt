@@ -1,7 +1,10 @@
 // How a program ends.
+ghost use Rattle.std.specs.Prelude.{◌≡◌, is_ok, cond};
+ghost use Rattle.std.specs.Process.{exit_status};
+
 use std::process::{ExitCode, Termination};
 
-// An error is said once, with the program's name, where one that `main` returned would be said without it.
+// An error is said with the program's name. One that `main` returned itself would be said as `Error: ..`.
 #[derive(Drop)]
 pub struct Exit {
     pub program: &'static str,
@@ -9,7 +12,9 @@ pub struct Exit {
 }
 
 impl Termination for Exit {
-    fn report<R: Eprint>(self, rt: &R) -> ExitCode {
+    fn report<R: Eprint>(self, rt: &R) -> ExitCode
+        ensures { exit_status result ≡ cond (is_ok self.outcome) 0 1 }
+    {
         let Exit { program, outcome } = self;
         let Err(error) = outcome else {
             return ExitCode::SUCCESS;
