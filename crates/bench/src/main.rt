@@ -14,12 +14,9 @@ fn main(rt: HostRuntime) -> anyhow::Result<()> {
     let rows = read_numbers(rt.alloc(), &mut rt.stdin(), MAX_WORDS)?;
     let mut work = vec![in rt.alloc(); 0; WORK_WORDS]?;
     let times = TOTAL / rows.len().max(1);
-    let mut kept = 0u32;
-    for _ in 0..times {
-        if judge(rows.as_slice(), work.as_mut_slice()) == Judged::Keeps {
-            kept = kept.saturating_add(1);
-        }
-    }
+    let kept = (0..times)
+        .filter(|_| judge(rows.as_slice(), work.as_mut_slice()) == Judged::Keeps)
+        .count();
     println!(rt; "{kept} times of {times} it keeps the rules")?;
     Ok(())
 }

@@ -14,30 +14,24 @@ const LENDING: [u32; 56] = [
     5, 0, 2, 3, 1, 0, 0, 1, 1, 1, 1, 5, 2, 0, 1, 2, 2, 2, 1, 2, 0, 1, 6, 0, 2,
 ];
 
-// One row after another, with the middle one n times.
-fn rows(
-    heap: Global,
-    head: &[u32],
-    middle: &[u32],
-    n: usize,
-    tail: &[u32],
-) -> Result<Vec<u32>, AllocError> {
-    let mut all = head.to_vec(heap)?;
-    for _ in 0..n {
-        all.extend_from_slice(middle)?;
-    }
-    all.extend_from_slice(tail)?;
-    Ok(all)
-}
+// A head, words that stand so many times, and a tail.
+#[derive(Drop)]
+struct Rows<'a>(&'a [u32], &'a [u32], usize, &'a [u32]);
 
-fn reads(
-    heap: Global,
-    head: &[u32],
-    middle: &[u32],
-    n: usize,
-    tail: &[u32],
-) -> Result<bool, AllocError> {
-    is_program(heap, rows(heap, head, middle, n, tail)?.as_slice())
+impl<'a> Rows<'a> {
+    fn words(&self, heap: Global) -> Result<Vec<u32>, AllocError> {
+        let Rows(head, middle, times, tail) = *self;
+        let mut all = head.to_vec(heap)?;
+        for _ in 0..times {
+            all.extend_from_slice(middle)?;
+        }
+        all.extend_from_slice(tail)?;
+        Ok(all)
+    }
+
+    fn reads(&self, heap: Global) -> Result<bool, AllocError> {
+        is_program(heap, self.words(heap)?.as_slice())
+    }
 }
 
 #[test]
@@ -49,53 +43,37 @@ fn nothing_is_a_program(rt: HostRuntime) -> Result<(), Fail> {
 // So many statements in one another, each but the last a pair.
 #[test]
 fn nesting_of_statements(rt: HostRuntime) -> Result<(), Fail> {
-    assert!(rt; reads(rt.alloc(), &BARE, &[1, 0], 127, &[0])?);
-    assert!(rt; !reads(rt.alloc(), &BARE, &[1, 0], 128, &[0])?);
+    assert!(rt; Rows(&BARE, &[1, 0], 127, &[0]).reads(rt.alloc())?);
+    assert!(rt; !Rows(&BARE, &[1, 0], 128, &[0]).reads(rt.alloc())?);
     Ok(())
 }
 
 // A statement around so many expressions, each but the last a sum.
 #[test]
 fn nesting_of_expressions(rt: HostRuntime) -> Result<(), Fail> {
-    assert!(rt; reads(rt.alloc(), &[0, 0, 0, 12], &[2, 0, 7], 126, &[0, 7])?);
-    assert!(rt; !reads(rt.alloc(), &[0, 0, 0, 12], &[2, 0, 7], 127, &[0, 7])?);
+    assert!(rt; Rows(&[0, 0, 0, 12], &[2, 0, 7], 126, &[0, 7]).reads(rt.alloc())?);
+    assert!(rt; !Rows(&[0, 0, 0, 12], &[2, 0, 7], 127, &[0, 7]).reads(rt.alloc())?);
     Ok(())
 }
 
 #[test]
 fn procedures(rt: HostRuntime) -> Result<(), Fail> {
-    assert!(rt; reads(rt.alloc(), &[], &SKIP, 64, &[])?);
-    assert!(rt; !reads(rt.alloc(), &[], &SKIP, 65, &[])?);
+    assert!(rt; Rows(&[], &SKIP, 64, &[]).reads(rt.alloc())?);
+    assert!(rt; !Rows(&[], &SKIP, 65, &[]).reads(rt.alloc())?);
     Ok(())
 }
 
 #[test]
 fn variables(rt: HostRuntime) -> Result<(), Fail> {
-    assert!(rt; reads(rt.alloc(), &[32], &[0], 32, &[0, 0, 0])?);
-    assert!(rt; !reads(rt.alloc(), &[33], &[0], 33, &[0, 0, 0])?);
+    assert!(rt; Rows(&[32], &[0], 32, &[0, 0, 0]).reads(rt.alloc())?);
+    assert!(rt; !Rows(&[33], &[0], 33, &[0, 0, 0]).reads(rt.alloc())?);
     Ok(())
 }
 
 #[test]
 fn arguments(rt: HostRuntime) -> Result<(), Fail> {
-    assert!(rt;
-        reads(
-            rt.alloc(),
-            &[9, 0, 0, 0, 0, 0, 0, 0, 0, 0, 8],
-            &[1],
-            8,
-            &[0, 0],
-        )?
-    );
-    assert!(rt;
-        !reads(
-            rt.alloc(),
-            &[9, 0, 0, 0, 0, 0, 0, 0, 0, 0, 9],
-            &[1],
-            9,
-            &[0, 0],
-        )?
-    );
+    assert!(rt; Rows(&[9, 0, 0, 0, 0, 0, 0, 0, 0, 0, 8], &[1], 8, &[0, 0]).reads(rt.alloc())?);
+    assert!(rt; !Rows(&[9, 0, 0, 0, 0, 0, 0, 0, 0, 0, 9], &[1], 9, &[0, 0]).reads(rt.alloc())?);
     assert!(rt; is_program(rt.alloc(), &[2, 0, 0, 2, 0, 1, 5, 0])?);
     assert!(rt; !is_program(rt.alloc(), &[2, 0, 0, 3, 0, 1, 1, 5, 0])?);
     Ok(())
@@ -117,21 +95,13 @@ fn kinds_and_marks(rt: HostRuntime) -> Result<(), Fail> {
 #[test]
 fn words(rt: HostRuntime) -> Result<(), Fail> {
     let call = [0, 0, 0, 1, 11, 0, 0, 8187];
-    let whole = rows(rt.alloc(), &call, &[0, 1], 8187, &[8, 0])?;
+    let whole = Rows(&call, &[0, 1], 8187, &[8, 0]).words(rt.alloc())?;
     assert_eq!(rt; whole.len(), 16384);
     assert!(rt; is_program(rt.alloc(), whole.as_slice())?);
-    let long = rows(rt.alloc(), &call, &[0, 1], 8187, &[3, 0, 0])?;
+    let long = Rows(&call, &[0, 1], 8187, &[3, 0, 0]).words(rt.alloc())?;
     assert_eq!(rt; long.len(), 16385);
     assert!(rt; !is_program(rt.alloc(), long.as_slice())?);
-    assert!(rt;
-        reads(
-            rt.alloc(),
-            &[0, 0, 0, 1, 11, 0, 0, 8186],
-            &[0, 1],
-            8186,
-            &[3, 0, 0],
-        )?
-    );
+    assert!(rt; Rows(&[0, 0, 0, 1, 11, 0, 0, 8186], &[0, 1], 8186, &[3, 0, 0]).reads(rt.alloc())?);
     Ok(())
 }
 

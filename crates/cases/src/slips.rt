@@ -1,18 +1,24 @@
 // The slips that the rules are there to find, each beside the nearest program that keeps them.
 use crate::says::{says, says_in};
 use owned::Judged;
+use std::alloc::{AllocError, Global};
 use std::test::Fail;
+
+// What is said of a program with a slip, and of the one beside it.
+fn both(heap: Global, slip: &[u32], beside: &[u32]) -> Result<(Judged, Judged), AllocError> {
+    Ok((says(heap, slip)?, says(heap, beside)?))
+}
 
 // A box variable that is full after one part of an `if` and empty after the other.
 #[test]
 fn full_on_one_way(rt: HostRuntime) -> Result<(), Fail> {
     assert_eq!(rt;
-        says(rt.alloc(), &[3, 0, 0, 1, 0, 0, 9, 1, 1, 3, 2, 1, 0])?,
-        Judged::Careless
-    );
-    assert_eq!(rt;
-        says(rt.alloc(), &[3, 0, 0, 1, 0, 0, 9, 1, 1, 3, 2, 1, 3, 2, 0])?,
-        Judged::Keeps
+        both(
+            rt.alloc(),
+            &[3, 0, 0, 1, 0, 0, 9, 1, 1, 3, 2, 1, 0],
+            &[3, 0, 0, 1, 0, 0, 9, 1, 1, 3, 2, 1, 3, 2, 0],
+        )?,
+        (Judged::Careless, Judged::Keeps)
     );
     Ok(())
 }
@@ -21,24 +27,18 @@ fn full_on_one_way(rt: HostRuntime) -> Result<(), Fail> {
 #[test]
 fn lent_box_handed_on(rt: HostRuntime) -> Result<(), Fail> {
     assert_eq!(rt;
-        says(
+        both(
             rt.alloc(),
             &[
                 3, 0, 0, 1, 0, 0, 1, 3, 2, 1, 11, 0, 1, 1, 2, 1, 2, 1, 0, 1, 1, 1, 11, 1, 2, 1, 0,
                 0, 2, 1, 0, 1, 0, 1, 0,
             ],
-        )?,
-        Judged::Careless
-    );
-    assert_eq!(rt;
-        says(
-            rt.alloc(),
             &[
                 3, 0, 0, 1, 0, 0, 1, 3, 2, 1, 11, 0, 1, 1, 2, 1, 2, 1, 0, 1, 1, 1, 11, 1, 2, 1, 0,
                 1, 2, 1, 0, 1, 1, 1, 0,
             ],
         )?,
-        Judged::Keeps
+        (Judged::Careless, Judged::Keeps)
     );
     Ok(())
 }
@@ -47,22 +47,16 @@ fn lent_box_handed_on(rt: HostRuntime) -> Result<(), Fail> {
 #[test]
 fn box_lent_twice(rt: HostRuntime) -> Result<(), Fail> {
     assert_eq!(rt;
-        says(
+        both(
             rt.alloc(),
             &[
                 3, 0, 0, 1, 0, 0, 1, 3, 2, 1, 11, 0, 1, 2, 2, 1, 2, 1, 3, 1, 1, 0, 2, 1, 1, 2, 0,
             ],
-        )?,
-        Judged::Careless
-    );
-    assert_eq!(rt;
-        says(
-            rt.alloc(),
             &[
                 2, 0, 0, 0, 0, 11, 0, 1, 2, 1, 1, 1, 1, 3, 0, 0, 0, 2, 1, 1, 2, 0,
             ],
         )?,
-        Judged::Keeps
+        (Judged::Careless, Judged::Keeps)
     );
     Ok(())
 }
@@ -71,23 +65,17 @@ fn box_lent_twice(rt: HostRuntime) -> Result<(), Fail> {
 #[test]
 fn box_lent_and_handed_over(rt: HostRuntime) -> Result<(), Fail> {
     assert_eq!(rt;
-        says(
+        both(
             rt.alloc(),
             &[
                 3, 0, 0, 1, 0, 0, 1, 3, 2, 1, 11, 0, 1, 2, 2, 1, 2, 0, 3, 1, 1, 0, 2, 1, 0, 2, 0,
             ],
-        )?,
-        Judged::Careless
-    );
-    assert_eq!(rt;
-        says(
-            rt.alloc(),
             &[
                 4, 0, 0, 1, 1, 0, 0, 1, 3, 2, 1, 1, 3, 3, 1, 11, 0, 1, 2, 2, 1, 3, 0, 3, 1, 1, 0,
                 2, 1, 0, 2, 0,
             ],
         )?,
-        Judged::Keeps
+        (Judged::Careless, Judged::Keeps)
     );
     Ok(())
 }
@@ -96,15 +84,12 @@ fn box_lent_and_handed_over(rt: HostRuntime) -> Result<(), Fail> {
 #[test]
 fn number_stays_full(rt: HostRuntime) -> Result<(), Fail> {
     assert_eq!(rt;
-        says(
+        both(
             rt.alloc(),
             &[4, 0, 0, 1, 1, 0, 0, 1, 3, 2, 1, 1, 7, 3, 2, 5, 0, 2],
+            &[2, 0, 0, 0, 0, 1, 7, 0, 1, 2, 0, 1, 1],
         )?,
-        Judged::Careless
-    );
-    assert_eq!(rt;
-        says(rt.alloc(), &[2, 0, 0, 0, 0, 1, 7, 0, 1, 2, 0, 1, 1])?,
-        Judged::Keeps
+        (Judged::Careless, Judged::Keeps)
     );
     Ok(())
 }
@@ -113,20 +98,14 @@ fn number_stays_full(rt: HostRuntime) -> Result<(), Fail> {
 #[test]
 fn loop_that_empties(rt: HostRuntime) -> Result<(), Fail> {
     assert_eq!(rt;
-        says(
+        both(
             rt.alloc(),
             &[3, 0, 0, 1, 0, 0, 1, 3, 2, 1, 10, 1, 1, 1, 5, 0, 2, 8, 2],
-        )?,
-        Judged::Careless
-    );
-    assert_eq!(rt;
-        says(
-            rt.alloc(),
             &[
                 3, 0, 0, 1, 0, 0, 1, 3, 2, 1, 10, 1, 1, 1, 5, 0, 2, 1, 8, 2, 3, 2, 1,
             ],
         )?,
-        Judged::Keeps
+        (Judged::Careless, Judged::Keeps)
     );
     Ok(())
 }

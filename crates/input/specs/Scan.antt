@@ -1,5 +1,7 @@
 -- How text is read as numbers: words of decimal digits, separated by white space.
 use Rattle.std.specs.Prelude.{◌≡◌, ℕ, ◌+◌, ◌-◌, ◌*◌, ◌^◌, min, Bool, cond, ◌&&◌, ◌||◌, List, [], ◌∷◌, ◌++◌, length, Some, None, Ok, Err, Option, Result, ◌==◌, nat_le, nat_lt, slice_set}
+use Rattle.input.specs.declared.Place.{Place}
+use Rattle.input.specs.declared.Word.{Word}
 use Rattle.input.specs.declared.Scanner.{Scanner}
 use Rattle.input.specs.declared.BadWord.{BadWord}
 
@@ -23,8 +25,24 @@ grown (Some m) b = cond (is_digit b) (fitted (m * 10 + (b - 48))) None
 abbrev pub next : ℕ → ℕ
 next m = min (m + 1) (2 ^ 64 - 1)
 
+-- past a byte: a line feed begins a line
+abbrev pub past : Place → ℕ → Place
+past p b = record { line = cond (b == 10) (next p.line) p.line; column = cond (b == 10) 1 (next p.column) }
+
+-- so many bytes before, in the same line
+abbrev pub back : Place → ℕ → Place
+back p n = record { line = p.line; column = p.column - n }
+
+-- a word begun anew
+abbrev pub emptied : Word → Word
+emptied w = record { kept = w.kept; len = 0 }
+
+-- a byte added to a word
+abbrev pub longer : Word → ℕ → Word
+longer w b = record { kept = slice_set w.kept w.len b; len = next w.len }
+
 abbrev pub bad : Scanner → BadWord
-bad s = record { line = s.line; column = s.column - s.len; kept = s.kept; len = s.len }
+bad s = record { place = back s.place s.word.len; word = s.word }
 
 abbrev pub number : Scanner → Option ℕ → Result (Option ℕ) BadWord
 number s None = Err (bad s)
@@ -32,37 +50,26 @@ number s (Some m) = Ok (Some m)
 
 -- what is known at the end of a word: nothing if there was none, its number, or that it is no number
 abbrev pub finished : Scanner → Result (Option ℕ) BadWord
-finished s = cond (s.len == 0) (Ok None) (number s s.value)
+finished s = cond (s.word.len == 0) (Ok None) (number s s.value)
 
 -- the numbers found, with one more if there are not more than `most`
 abbrev pub noted : ℕ → List ℕ → Option ℕ → List ℕ
 noted most ms None = ms
 noted most ms (Some m) = cond (nat_le (length ms) most) (ms ++ (m ∷ [])) ms
 
--- a byte added to the word
-pub record Kept (s : Scanner) (b : ℕ) (t : Scanner) : Type 0 where
-  pub value : t.value ≡ grown s.value b
-  pub len : t.len ≡ next s.len
-  pub kept : t.kept ≡ slice_set s.kept s.len b
-  pub line : t.line ≡ s.line
-  pub column : t.column ≡ s.column
-
--- past a byte: a line feed begins a line
-pub record Advanced (s : Scanner) (b : ℕ) (t : Scanner) : Type 0 where
-  pub line : t.line ≡ cond (b == 10) (next s.line) s.line
-  pub column : t.column ≡ cond (b == 10) 1 (next s.column)
-  pub value : t.value ≡ s.value
-  pub len : t.len ≡ s.len
-  pub kept : t.kept ≡ s.kept
+-- at the beginning of a text
+pub record Begun (s : Scanner) : Type 0 where
+  pub line : s.place.line ≡ 1
+  pub column : s.place.column ≡ 1
+  pub len : s.word.len ≡ 0
+  pub value : s.value ≡ Some 0
 
 -- one byte more: white space ends a word, any other byte belongs to it
 pub record Pushed (s : Scanner) (b : ℕ) (r : Result (Option ℕ) BadWord) (t : Scanner) : Type 0 where
   pub says : r ≡ cond (is_white_space b) (finished s) (Ok None)
   pub value : t.value ≡ cond (is_white_space b) (Some 0) (grown s.value b)
-  pub len : t.len ≡ cond (is_white_space b) 0 (next s.len)
-  pub kept : t.kept ≡ cond (is_white_space b) s.kept (slice_set s.kept s.len b)
-  pub line : t.line ≡ cond (b == 10) (next s.line) s.line
-  pub column : t.column ≡ cond (b == 10) 1 (next s.column)
+  pub word : t.word ≡ cond (is_white_space b) (emptied s.word) (longer s.word b)
+  pub place : t.place ≡ past s.place b
 
 -- bytes one after the other: from a scanner and the numbers found so far to those after them
 abbrev pub Taken : ℕ → Scanner → List ℕ → List ℕ → Scanner → List ℕ → Type 0
@@ -72,3 +79,7 @@ Taken most s ms (b ∷ bs) t ns = (u : Scanner) × (o : Option ℕ) × Pushed s 
 -- the end of the text: the last word is looked at too
 abbrev pub Ended : ℕ → Scanner → List ℕ → List ℕ → Type 0
 Ended most s ms ns = (o : Option ℕ) × (finished s ≡ Ok o) × (ns ≡ noted most ms o)
+
+-- the numbers of a whole text
+abbrev pub Parsed : ℕ → List ℕ → List ℕ → Type 0
+Parsed most bs ns = (s : Scanner) × Begun s × (t : Scanner) × (ms : List ℕ) × Taken most s [] bs t ms × Ended most t ms ns

@@ -1,95 +1,155 @@
 #![tactic(auto)]
 
-ghost use Rattle.std.specs.Prelude.{◌≡◌, ◌+◌, ◌≤◌, [], length, replicate, IfOk, Some, vec_len, OnOk};
-ghost use Rattle.input.specs.Scan.{is_white_space, grown, finished, noted, Kept, Advanced, Pushed, Taken, Ended};
+ghost use Rattle.std.specs.Prelude.{◌≡◌, ◌==◌, ◌+◌, ◌≤◌, [], replicate, IfOk, Some, vec_len, OnOk};
+ghost use Rattle.input.specs.Scan.{is_white_space, grown, past, back, emptied, longer, finished, noted, Begun, Pushed, Taken, Ended, Parsed};
 
+mod exit;
+
+pub use exit::Exit;
 use std::alloc::Global;
-use std::error::Error;
 use std::fmt;
 use std::io::Read;
+use thiserror::Error;
 
 // How many bytes of a word a message shows.
 const SHOWN: usize = 24;
 
-// Reads text byte by byte: decimal numbers, separated by white space.
-#[derive(Drop)]
-pub struct Scanner {
-    line: u64,
-    column: u64,
-    kept: [u8; 24],
-    len: u64,
-    value: Option<u32>,
-}
-
-// A word that is no number below 2^32: where it begins, its first bytes and its length.
+// A place in a text: lines, and the columns of a line, count from 1.
 #[derive(Clone, Copy, Debug)]
-pub struct BadWord {
-    line: u64,
-    column: u64,
-    kept: [u8; 24],
-    len: u64,
+struct Place {
+    line: usize,
+    column: usize,
 }
 
-impl fmt::Display for BadWord {
-    fn fmt<W: fmt::Write>(&self, f: &mut fmt::Formatter<W>) -> fmt::Result {
-        let line = self.line;
-        let column = self.column;
-        write!(f, "line {line}, column {column}: '")?;
-        for (i, byte) in self.kept.iter().enumerate() {
-            if (i as u64) < self.len {
-                f.write_char(printable(*byte))?;
+impl Place {
+    const START: Place = Place { line: 1, column: 1 };
+
+    // The place after a byte that stands here.
+    fn past(self, byte: u8) -> Self
+        ensures { result ≡ past self byte }
+    {
+        if byte == b'\n' {
+            Place {
+                line: self.line.saturating_add(1),
+                column: 1,
+            }
+        } else {
+            Place {
+                line: self.line,
+                column: self.column.saturating_add(1),
             }
         }
-        let more = if self.len > SHOWN as u64 { ".." } else { "" };
-        write!(f, "{more}' is no decimal number below 4294967296")
+    }
+
+    // The place so many bytes before, in the same line.
+    fn back(self, bytes: usize) -> Self
+        ensures { result ≡ back self bytes }
+    {
+        Place {
+            line: self.line,
+            column: self.column.saturating_sub(bytes),
+        }
     }
 }
 
-impl Error for BadWord {}
+impl fmt::Display for Place {
+    fn fmt<W: fmt::Write>(&self, f: &mut fmt::Formatter<W>) -> fmt::Result {
+        let Place { line, column } = *self;
+        write!(f, "line {line}, column {column}")
+    }
+}
+
+// A word as a message shows it: its first bytes and its length.
+// An `ArrayVec` would not be `Copy`, and would not count the bytes that it has no room for.
+#[derive(Clone, Copy, Debug, Default)]
+struct Word {
+    kept: [u8; SHOWN],
+    len: usize,
+}
+
+impl Word {
+    fn is_empty(&self) -> bool
+        ensures { result ≡ (self.now.len == 0) }
+    {
+        self.len == 0
+    }
+
+    fn clear(&mut self)
+        ensures { self.new ≡ emptied self.old }
+    {
+        self.len = 0;
+    }
+
+    fn push(&mut self, byte: u8)
+        ensures { self.new ≡ longer self.old byte }
+    {
+        if self.len < SHOWN {
+            self.kept[self.len] = byte;
+        }
+        self.len = self.len.saturating_add(1);
+    }
+}
+
+impl fmt::Display for Word {
+    fn fmt<W: fmt::Write>(&self, f: &mut fmt::Formatter<W>) -> fmt::Result {
+        for byte in self.kept.iter().take(self.len) {
+            f.write_char(printable(*byte))?;
+        }
+        if self.len > SHOWN {
+            f.write_str("..")?;
+        }
+        Ok(())
+    }
+}
 
 // A byte as it may be shown in a message.
 fn printable(byte: u8) -> char {
-    if 32 < byte && byte < 127 {
+    if byte.is_ascii_graphic() {
         char::from(byte)
     } else {
         '?'
     }
 }
 
+// A word that is no number below 2^32, and where it begins.
+#[derive(Clone, Copy, Debug, Error)]
+#[error("{place}: '{word}' is no decimal number below 4294967296")]
+pub struct BadWord {
+    place: Place,
+    word: Word,
+}
+
+// The white space of C. `is_ascii_whitespace` leaves out the vertical tab.
 fn is_white(byte: u8) -> bool
     ensures { result ≡ is_white_space byte }
 {
-    byte == b' ' || (9 <= byte && byte <= 13)
+    matches!(byte, b' ' | b'\t'..=b'\r')
 }
 
 // The number that a word is with one byte more, if it is one below 2^32.
 fn grow(value: Option<u32>, byte: u8) -> Option<u32>
     ensures { result ≡ grown value byte }
 {
-    match value {
-        Some(m) => {
-            if byte < b'0' || byte > b'9' {
-                return None;
-            }
-            m.checked_mul(10)?.checked_add(u32::from(byte - b'0'))
-        }
-        None => None,
-    }
+    let digit = char::from(byte).to_digit(10)?;
+    value?.checked_mul(10)?.checked_add(digit)
+}
+
+// Reads text byte by byte: decimal numbers, separated by white space.
+#[derive(Drop)]
+pub struct Scanner {
+    place: Place,
+    word: Word,
+    value: Option<u32>,
 }
 
 impl Scanner {
     // At the beginning of a text.
     pub fn new() -> Self
-        ensures line { result.line ≡ 1 }
-        ensures column { result.column ≡ 1 }
-        ensures len { result.len ≡ 0 }
-        ensures value { result.value ≡ Some 0 }
+        ensures { Begun result }
     {
         Scanner {
-            line: 1,
-            column: 1,
-            kept: [0; SHOWN],
-            len: 0,
+            place: Place::START,
+            word: Word::default(),
             value: Some(0),
         }
     }
@@ -98,58 +158,44 @@ impl Scanner {
     pub fn finish(&self) -> Result<Option<u32>, BadWord>
         ensures { result ≡ finished self.now }
     {
-        if self.len == 0 {
+        if self.word.is_empty() {
             return Ok(None);
         }
-        match self.value {
-            Some(m) => Ok(Some(m)),
-            None => Err(BadWord {
-                line: self.line,
-                column: self.column.saturating_sub(self.len),
-                kept: self.kept,
-                len: self.len,
-            }),
-        }
+        let Some(m) = self.value else {
+            return Err(BadWord {
+                place: self.place.back(self.word.len),
+                word: self.word,
+            });
+        };
+        Ok(Some(m))
     }
 
-    // Adds a byte to the word.
-    fn keep(&mut self, byte: u8)
-        ensures { Kept self.old byte self.new }
+    // Begins a word, and gives what is known of the one before.
+    fn end_word(&mut self) -> Result<Option<u32>, BadWord>
+        ensures says { result ≡ finished self.old }
+        ensures word { self.new.word ≡ emptied self.old.word }
+        ensures value { self.new.value ≡ Some 0 }
+        ensures place { self.new.place ≡ self.old.place }
     {
-        let at = self.len;
-        self.len = at.saturating_add(1);
-        self.value = grow(self.value, byte);
-        if at < SHOWN as u64 {
-            self.kept[at as usize] = byte;
-        }
-    }
-
-    // Goes past a byte.
-    fn advance(&mut self, byte: u8)
-        ensures { Advanced self.old byte self.new }
-    {
-        if byte == b'\n' {
-            self.line = self.line.saturating_add(1);
-            self.column = 1;
-        } else {
-            self.column = self.column.saturating_add(1);
-        }
+        let says = self.finish();
+        self.word.clear();
+        self.value = Some(0);
+        says
     }
 
     // Takes one byte more; the number of the word that it ends, if it ends one.
     pub fn push(&mut self, byte: u8) -> Result<Option<u32>, BadWord>
         ensures { Pushed self.old byte result self.new }
     {
-        if is_white(byte) {
-            let says = self.finish();
-            self.len = 0;
-            self.value = Some(0);
-            self.advance(byte);
-            return says;
-        }
-        self.keep(byte);
-        self.advance(byte);
-        Ok(None)
+        let says = if is_white(byte) {
+            self.end_word()
+        } else {
+            self.word.push(byte);
+            self.value = grow(self.value, byte);
+            Ok(None)
+        };
+        self.place = self.place.past(byte);
+        says
     }
 }
 
@@ -166,6 +212,7 @@ impl Numbers {
     pub fn new(heap: Global, most: usize) -> Self
         ensures found { result.found.items ≡ [] }
         ensures most { result.most ≡ most }
+        ensures scanner { Begun result.scanner }
     {
         Numbers {
             scanner: Scanner::new(),
@@ -180,10 +227,10 @@ impl Numbers {
         ensures most { self.new.most ≡ self.old.most }
         ensures scanner { self.new.scanner ≡ self.old.scanner }
     {
-        if let Some(m) = number {
-            if self.found.len() <= self.most {
-                self.found.push(m)?;
-            }
+        if let Some(m) = number
+            && self.found.len() <= self.most
+        {
+            self.found.push(m)?;
         }
         Ok(())
     }
@@ -211,12 +258,23 @@ impl Numbers {
     }
 }
 
+// The numbers of a text that is there as a whole.
+pub fn parse_numbers(heap: Global, text: &[u8], most: usize) -> anyhow::Result<Vec<u32>>
+    ensures numbers { IfOk result (λ v. Parsed most text.now v.items) }
+    ensures few { IfOk result (λ v. vec_len v ≤ most + 1) }
+{
+    let mut found = Numbers::new(heap, most);
+    found.take(text)?;
+    found.finish()
+}
+
 // The numbers of a text, read to its end in pieces of a page.
 pub fn read_numbers<R: Read>(heap: Global, input: &mut R, most: usize) -> anyhow::Result<Vec<u32>>
     ensures { IfOk result (λ v. vec_len v ≤ most + 1) }
 {
     let mut numbers = Numbers::new(heap, most);
     let mut page = [0u8; 4096];
+    // A count, since a reader may give bytes for ever.
     for _ in 0..u64::MAX {
         let n = input.read(&mut page)?;
         if n == 0 {

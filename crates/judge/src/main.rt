@@ -1,8 +1,7 @@
 #![tactic(auto)]
 
-use input::read_numbers;
+use input::{Exit, read_numbers};
 use owned::{Judged, MAX_WORDS, judge};
-use std::process::ExitCode;
 
 // Enough work words for the longest program.
 const WORK_WORDS: usize = 8192 + 4 * (MAX_WORDS + 1);
@@ -21,11 +20,9 @@ fn judge_input(rt: &HostRuntime) -> anyhow::Result<()> {
     Ok(())
 }
 
-// An error is said once, with the program's name: one that `main` returned would be printed again.
-fn main(rt: HostRuntime) -> ExitCode {
-    let Err(error) = judge_input(&rt) else {
-        return ExitCode::SUCCESS;
-    };
-    let _ = eprintln!(rt; "judge: {error}");
-    ExitCode::FAILURE
+fn main(rt: HostRuntime) -> Exit {
+    Exit {
+        program: "judge",
+        outcome: judge_input(&rt),
+    }
 }

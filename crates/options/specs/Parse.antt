@@ -80,8 +80,12 @@ taken_by (Some l) p w = valued p l (decimal w)
 abbrev pub taken : Parser → List ℕ → Result Parser Slip
 taken p w = taken_by p.pending p w
 
+-- how far a run may go if nothing is said
+abbrev pub defaults : Options
+defaults = record { cells = 1000; depth = 1000; turns = 1000000000 }
+
 abbrev pub options : Parser → Options
-options p = record { cells = unwrap_or p.cells 1000; depth = unwrap_or p.depth 1000; turns = unwrap_or p.turns 1000000000 }
+options p = record { cells = unwrap_or p.cells defaults.cells; depth = unwrap_or p.depth defaults.depth; turns = unwrap_or p.turns defaults.turns }
 
 abbrev pub ended_by : Option Limit → Parser → Result Request Slip
 ended_by None p = Ok (cond p.help Usage (Run (options p)))

@@ -1,22 +1,17 @@
 #![tactic(auto)]
 
 ghost use Rattle.std.specs.Prelude.{◌≡◌, false, is_some, Some, None, fold};
-ghost use Rattle.options.specs.Parse.{grown, decimal as decimal_of, most as most_of, word as word_of, unnamed as unnamed_of, given as given_to, put as put_to, valued, named, taken, ended};
+ghost use Rattle.options.specs.Parse.{grown, decimal as decimal_of, most as most_of, word as word_of, given as given_to, defaults, valued, named, taken, ended};
 
-use std::error::Error;
 use std::fmt;
+use thiserror::Error;
 
+// The most that may be asked for.
 pub const MAX_CELLS: u32 = 50_000;
 
 pub const MAX_DEPTH: u32 = 1_250;
 
 pub const MAX_TURNS: u64 = 1_000_000_000_000_000_000;
-
-const CELLS: u32 = 1_000;
-
-const DEPTH: u32 = 1_000;
-
-const TURNS: u64 = 1_000_000_000;
 
 // How far a run may go: its cells, the calls that may be open at once, its turns.
 #[derive(Clone, Copy, Debug, PartialEq, Eq)]
@@ -24,6 +19,19 @@ pub struct Options {
     pub cells: u32,
     pub depth: u32,
     pub turns: u64,
+}
+
+// How far a run may go if nothing is said.
+impl Default for Options {
+    ghost is_default = { λ o. o ≡ defaults };
+
+    fn default() -> Self {
+        Options {
+            cells: 1_000,
+            depth: 1_000,
+            turns: 1_000_000_000,
+        }
+    }
 }
 
 // What is asked for: how the program is used, or a run.
@@ -42,13 +50,19 @@ pub enum Limit {
 }
 
 // What is wrong with a word.
-#[derive(Clone, Copy, Debug, PartialEq, Eq)]
+#[derive(Clone, Copy, Debug, PartialEq, Eq, Error)]
 pub enum Slip {
+    #[error("unknown option")]
     Unknown,
+    #[error("extra word, since rows are read from standard input")]
     Extra,
+    #[error("{0} has no value")]
     Missing(Limit),
+    #[error("the value of {0} is no decimal number")]
     NoNumber(Limit),
+    #[error("the value of {0} is more than {most}", most = .0.most())]
     TooLarge(Limit),
+    #[error("{0} is given twice")]
     Twice(Limit),
 }
 
@@ -84,89 +98,42 @@ impl fmt::Display for Limit {
     }
 }
 
-impl fmt::Display for Slip {
-    fn fmt<W: fmt::Write>(&self, f: &mut fmt::Formatter<W>) -> fmt::Result {
-        match *self {
-            Slip::Unknown => write!(f, "unknown option"),
-            Slip::Extra => write!(f, "extra word, since rows are read from standard input"),
-            Slip::Missing(limit) => write!(f, "{limit} has no value"),
-            Slip::NoNumber(limit) => write!(f, "the value of {limit} is no decimal number"),
-            Slip::TooLarge(limit) => {
-                let most = limit.most();
-                write!(f, "the value of {limit} is more than {most}")
-            }
-            Slip::Twice(limit) => write!(f, "{limit} is given twice"),
+impl<'a> From<&'a str> for Word {
+    ghost from_gives = { λ text w. w ≡ word_of text.now };
+
+    fn from(text: &'a str) -> Self {
+        match text {
+            "--cells" => Word::Sets(Limit::Cells),
+            "--depth" => Word::Sets(Limit::Depth),
+            "--turns" => Word::Sets(Limit::Turns),
+            "--help" => Word::Help,
+            _ if text.starts_with("-") => Word::Dashed,
+            _ => Word::Other,
         }
     }
 }
-
-impl Error for Slip {}
 
 // A number with one digit more, as far as 64 bits count.
 fn grow(value: Option<u64>, byte: u8) -> Option<u64>
     ensures { result ≡ grown value byte }
 {
-    match value {
-        Some(m) if b'0' <= byte && byte <= b'9' => {
-            Some(m.saturating_mul(10).saturating_add(u64::from(byte - b'0')))
-        }
-        _ => None,
-    }
-}
-
-// The number that digits are, or none if one of them is no digit.
-fn digits(text: &[u8]) -> Option<u64>
-    ensures { result ≡ fold grown (Some 0) text.now }
-{
-    let mut value = Some(0);
-    for byte in text.iter() {
-        value = grow(value, *byte);
-    }
-    value
+    let digit = char::from(byte).to_digit(10)?;
+    Some(value?.saturating_mul(10).saturating_add(u64::from(digit)))
 }
 
 // The number that a word is: one digit at least, and nothing but digits.
+// `parse` would take a sign, and refuse a number that is too large as it refuses a word.
 fn decimal(text: &[u8]) -> Option<u64>
     ensures { result ≡ decimal_of text.now }
 {
     if text.is_empty() {
         return None;
     }
-    digits(text)
-}
-
-// What a word is that is no option.
-fn unnamed(text: &[u8]) -> Word
-    ensures { result ≡ unnamed_of text.now }
-{
-    if text.len() > 0 && text[0] == b'-' {
-        Word::Dashed
-    } else {
-        Word::Other
-    }
-}
-
-// What a word is where an option may stand.
-fn classify(text: &str) -> Word
-    ensures { result ≡ word_of text.now }
-{
-    if text == "--cells" {
-        return Word::Sets(Limit::Cells);
-    }
-    if text == "--depth" {
-        return Word::Sets(Limit::Depth);
-    }
-    if text == "--turns" {
-        return Word::Sets(Limit::Turns);
-    }
-    if text == "--help" {
-        return Word::Help;
-    }
-    unnamed(text.as_bytes())
+    text.iter().fold(Some(0), |value, byte| grow(value, *byte))
 }
 
 // Takes words one by one. An option whose value is still to come is pending.
-#[derive(Clone, Copy)]
+#[derive(Clone, Copy, Default)]
 pub struct Parser {
     cells: Option<u32>,
     depth: Option<u32>,
@@ -183,13 +150,7 @@ impl Parser {
         ensures pending { result.pending ≡ None }
         ensures help { result.help ≡ false }
     {
-        Parser {
-            cells: None,
-            depth: None,
-            turns: None,
-            pending: None,
-            help: false,
-        }
+        Parser::default()
     }
 
     // Whether an option was given before.
@@ -207,14 +168,14 @@ impl Parser {
     fn value(self, limit: Limit, number: Option<u64>) -> Result<Parser, Slip>
         ensures { result ≡ valued self limit number }
     {
-        let Some(n) = number else {
-            return Err(Slip::NoNumber(limit));
-        };
+        let n = number.ok_or(Slip::NoNumber(limit))?;
         if n > limit.most() {
             return Err(Slip::TooLarge(limit));
         }
-        let mut next = self;
-        next.pending = None;
+        let mut next = Parser {
+            pending: None,
+            ..self
+        };
         match limit {
             Limit::Cells => next.cells = Some(n as u32),
             Limit::Depth => next.depth = Some(n as u32),
@@ -227,15 +188,16 @@ impl Parser {
     fn option(self, word: Word) -> Result<Parser, Slip>
         ensures { result ≡ named self word }
     {
-        let mut next = self;
         match word {
-            Word::Sets(limit) if self.has(limit) => return Err(Slip::Twice(limit)),
-            Word::Sets(limit) => next.pending = Some(limit),
-            Word::Help => next.help = true,
-            Word::Dashed => return Err(Slip::Unknown),
-            Word::Other => return Err(Slip::Extra),
+            Word::Sets(limit) if self.has(limit) => Err(Slip::Twice(limit)),
+            Word::Sets(limit) => Ok(Parser {
+                pending: Some(limit),
+                ..self
+            }),
+            Word::Help => Ok(Parser { help: true, ..self }),
+            Word::Dashed => Err(Slip::Unknown),
+            Word::Other => Err(Slip::Extra),
         }
-        Ok(next)
     }
 
     // Takes one word more.
@@ -244,7 +206,7 @@ impl Parser {
     {
         match self.pending {
             Some(limit) => self.value(limit, decimal(text.as_bytes())),
-            None => self.option(classify(text)),
+            None => self.option(Word::from(text)),
         }
     }
 
@@ -258,10 +220,11 @@ impl Parser {
         if self.help {
             return Ok(Request::Usage);
         }
+        let default = Options::default();
         Ok(Request::Run(Options {
-            cells: self.cells.unwrap_or(CELLS),
-            depth: self.depth.unwrap_or(DEPTH),
-            turns: self.turns.unwrap_or(TURNS),
+            cells: self.cells.unwrap_or(default.cells),
+            depth: self.depth.unwrap_or(default.depth),
+            turns: self.turns.unwrap_or(default.turns),
         }))
     }
 }

@@ -1,12 +1,11 @@
 #![tactic(auto)]
 
 use anyhow::anyhow;
-use input::read_numbers;
+use input::{Exit, read_numbers};
 use interpreter::{Ran, go};
 use options::{Options, Parser, Request};
 use owned::MAX_WORDS;
 use std::env;
-use std::process::ExitCode;
 
 const USAGE: &str = "usage: run [--cells N] [--depth N] [--turns N] < ROWS
 
@@ -40,21 +39,17 @@ fn work_words(words: usize, options: Options) -> usize {
 
 // What the words after the program's name ask for.
 fn request(rt: &HostRuntime) -> anyhow::Result<Request> {
+    let words: Vec<String> = env::args(rt)?.skip(1).collect(rt.alloc())?;
     let mut parser = Parser::new();
-    let mut at = 0u64;
-    for word in env::args(rt)?.skip(1) {
-        at = at.saturating_add(1);
-        match parser.take(word.as_str()) {
-            Ok(next) => parser = next,
-            Err(slip) => return Err(anyhow!(format!(in rt.alloc();
-                "word {at}: {slip}: '{word}'"
-            )?)),
-        }
+    for (at, word) in (1u64..).zip(words.iter()) {
+        parser = parser
+            .take(word.as_str())
+            .map_err(|slip| anyhow!("word {at}: {slip}: '{word}'"))?;
     }
-    match parser.finish() {
-        Ok(asked) => Ok(asked),
-        Err(slip) => Err(anyhow!(format!(in rt.alloc(); "word {at}: {slip}")?)),
-    }
+    let count = words.len();
+    parser
+        .finish()
+        .map_err(|slip| anyhow!("word {count}: {slip}"))
 }
 
 // Writes what was shown, and how the run ended.
@@ -94,11 +89,9 @@ fn answer(rt: &HostRuntime) -> anyhow::Result<()> {
     Ok(())
 }
 
-// An error is said once, with the program's name: one that `main` returned would be printed again.
-fn main(rt: HostRuntime) -> ExitCode {
-    let Err(error) = answer(&rt) else {
-        return ExitCode::SUCCESS;
-    };
-    let _ = eprintln!(rt; "run: {error}");
-    ExitCode::FAILURE
+fn main(rt: HostRuntime) -> Exit {
+    Exit {
+        program: "run",
+        outcome: answer(&rt),
+    }
 }

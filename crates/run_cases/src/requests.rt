@@ -3,19 +3,10 @@ use options::{Limit, Options, Parser, Request, Slip};
 use std::test::Fail;
 
 fn asked(words: &[&str]) -> Result<Request, Slip> {
-    let mut parser = Parser::new();
-    for word in words.iter() {
-        parser = parser.take(word)?;
-    }
-    parser.finish()
-}
-
-// The slip in words that ask for nothing.
-fn slip(words: &[&str]) -> Option<Slip> {
-    match asked(words) {
-        Ok(_) => None,
-        Err(slip) => Some(slip),
-    }
+    words
+        .iter()
+        .try_fold(Parser::new(), |parser, word| parser.take(word))?
+        .finish()
 }
 
 fn run(cells: u32, depth: u32, turns: u64) -> Request {
@@ -45,45 +36,41 @@ fn limits_from_both_sides(rt: HostRuntime) -> Result<(), Fail> {
         run(50_000, 1_000, 1_000_000_000)
     );
     assert_eq!(rt;
-        slip(&["--cells", "50001"]),
-        Some(Slip::TooLarge(Limit::Cells))
+        asked(&["--cells", "50001"]),
+        Err(Slip::TooLarge(Limit::Cells))
     );
     assert_eq!(rt;
         asked(&["--depth", "1250"])?,
         run(1_000, 1_250, 1_000_000_000)
     );
     assert_eq!(rt;
-        slip(&["--depth", "1251"]),
-        Some(Slip::TooLarge(Limit::Depth))
+        asked(&["--depth", "1251"]),
+        Err(Slip::TooLarge(Limit::Depth))
     );
     assert_eq!(rt;
-        slip(&["--turns", "1000000000000000001"]),
-        Some(Slip::TooLarge(Limit::Turns))
+        asked(&["--turns", "1000000000000000001"]),
+        Err(Slip::TooLarge(Limit::Turns))
     );
     assert_eq!(rt;
-        slip(&["--turns", "99999999999999999999999"]),
-        Some(Slip::TooLarge(Limit::Turns))
+        asked(&["--turns", "99999999999999999999999"]),
+        Err(Slip::TooLarge(Limit::Turns))
     );
     Ok(())
 }
 
 #[test]
 fn words_that_are_refused(rt: HostRuntime) {
-    assert_eq!(rt; slip(&["--cell", "1"]), Some(Slip::Unknown));
-    assert_eq!(rt; slip(&["rows"]), Some(Slip::Extra));
-    assert_eq!(rt; slip(&[""]), Some(Slip::Extra));
-    assert_eq!(rt; slip(&["--turns"]), Some(Slip::Missing(Limit::Turns)));
-    assert_eq!(rt;
-        slip(&["--turns", "+1"]),
-        Some(Slip::NoNumber(Limit::Turns))
-    );
-    assert_eq!(rt; slip(&["--turns", ""]), Some(Slip::NoNumber(Limit::Turns)));
-    assert_eq!(rt;
-        slip(&["--turns", "--cells"]),
-        Some(Slip::NoNumber(Limit::Turns))
-    );
-    assert_eq!(rt;
-        slip(&["--depth", "1", "--depth", "1"]),
-        Some(Slip::Twice(Limit::Depth))
-    );
+    let refused: [(&[&str], Slip); 8] = [
+        (&["--cell", "1"], Slip::Unknown),
+        (&["rows"], Slip::Extra),
+        (&[""], Slip::Extra),
+        (&["--turns"], Slip::Missing(Limit::Turns)),
+        (&["--turns", "+1"], Slip::NoNumber(Limit::Turns)),
+        (&["--turns", ""], Slip::NoNumber(Limit::Turns)),
+        (&["--turns", "--cells"], Slip::NoNumber(Limit::Turns)),
+        (&["--depth", "1", "--depth", "1"], Slip::Twice(Limit::Depth)),
+    ];
+    for (words, slip) in refused {
+        assert_eq!(rt; asked(words), Err(slip));
+    }
 }

@@ -1,5 +1,6 @@
-ghost use Rattle.std.specs.Prelude.{◌≡◌, ◌+◌, ◌*◌, ◌^◌, ◌<◌};
 // Runs at the floor of work memory, runs that leave the numbers shown alone, and deep ones.
+ghost use Rattle.std.specs.Prelude.{◌≡◌, ◌+◌, ◌*◌, ◌^◌, ◌<◌};
+
 use interpreter::{Ran, go};
 use std::alloc::{AllocError, Global};
 use std::test::Fail;

@@ -1,7 +1,7 @@
 #![tactic(auto)]
 
-use anyhow::anyhow;
-use input::Numbers;
+use anyhow::Context;
+use input::parse_numbers;
 use owned::{Judged, MAX_WORDS, judge};
 use std::io::{BufRead, BufReader};
 
@@ -9,9 +9,7 @@ const WORK_WORDS: usize = 8192 + 4 * 256;
 
 // What is said of the program in a line of numbers.
 fn verdict(rt: &HostRuntime, rows: &str) -> anyhow::Result<&'static str> {
-    let mut numbers = Numbers::new(rt.alloc(), MAX_WORDS);
-    numbers.take(rows.as_bytes())?;
-    let program = numbers.finish()?;
+    let program = parse_numbers(rt.alloc(), rows.as_bytes(), MAX_WORDS)?;
     let mut work = [0; WORK_WORDS];
     Ok(match judge(program.as_slice(), &mut work) {
         Judged::Keeps => "keeps",
@@ -26,9 +24,10 @@ fn main(rt: HostRuntime) -> anyhow::Result<()> {
     let mut met = 0u32;
     for line in BufReader::new(rt.alloc(), rt.stdin())?.lines(rt.alloc()) {
         let line = line?;
-        let Some((label, rows)) = line.as_str().split_once(':') else {
-            return Err(anyhow!("a line has no label"));
-        };
+        let (label, rows) = line
+            .as_str()
+            .split_once(':')
+            .context("a line has no label")?;
         let says = verdict(&rt, rows)?;
         if label.starts_with(says) {
             met = met.saturating_add(1);
