@@ -1,8 +1,12 @@
+ghost use Rattle.std.specs.Prelude.{◌≤◌, IfOk};
+
+use crate::build::{branch, in_order, in_order_leftward, pair, reckoned, repeated};
+use crate::flaw::Flaw;
 use crate::plan::{LOOPS, Roles};
 use crate::rng::Rng;
 use reference::full::Full;
 use reference::rules::{Rule, Scope};
-use reference::tree::{Transfer, Var};
+use reference::tree::{Expression, Operator, Statement, Transfer, Var};
 use std::alloc::{AllocError, Global};
 
 // How often something that fits is looked for at random.
@@ -11,49 +15,70 @@ pub const TRIES: u32 = 60;
 // Statements before the first branch or loop.
 const OPENING: u32 = 4;
 
+// How many places of an expression may have an operator.
+const OPERATORS: u32 = 5;
+
 const NO_VARIABLE: Var = Var(u32::MAX);
 
 // Writes the body of a procedure, statement by statement, and knows what is full after each.
 #[derive(Drop)]
 pub struct Author<'a> {
-    pub rng: Rng,
+    pub rng: &'a mut Rng,
     pub heap: Global,
-    pub scope: Scope<'a>,
-    pub roles: &'a [Roles],
-    pub role: &'a Roles,
+    pub scope: Scope<'a, Roles>,
     pub number: u32,
     pub full: Full,
-    // the rule to break, once so many statements are written
-    pub flaw: Option<Rule>,
+    // broken once so many statements are written
+    pub flaw: &'a mut Flaw,
     pub wait: u32,
-    pub broken: Option<Rule>,
 }
 
 // Which statement comes next in a block.
-#[derive(Clone, Copy)]
+#[derive(Clone, Copy, Debug, PartialEq, Eq)]
 enum Choice {
     Plain,
     Branch,
     Loop,
 }
 
+// The variables that are full in the first and not in the second.
+fn only_in(heap: Global, full: &Full, other: &Full) -> Result<Vec<Var>, AllocError> {
+    (0u32..32)
+        .map(Var)
+        .filter(|x| full.has(*x) && !other.has(*x))
+        .collect(heap)
+}
+
 impl<'a> Author<'a> {
+    pub fn role(&self) -> &'a Roles {
+        &self.scope.procedure.body
+    }
+
     pub fn kind(&self, x: Var) -> u32 {
-        self.scope.signature.kind(x).unwrap_or(0)
+        self.scope.procedure.signature.kind(x).unwrap_or(0)
+    }
+
+    pub fn is_lent(&self, x: Var) -> bool {
+        self.scope.procedure.signature.is_lent(x)
+    }
+
+    // How many variables the procedure has.
+    pub fn variables(&self) -> usize {
+        self.scope.procedure.signature.kinds.len()
     }
 
     // A variable that statements may name.
     pub fn usable(&mut self) -> Var {
-        let count = u32::try_from(self.role.usable.len()).unwrap_or(0);
-        let chosen = self.rng.below(count) as usize;
-        self.role.usable.get(chosen).copied().unwrap_or(NO_VARIABLE)
+        let usable = self.role().usable.as_slice();
+        let chosen = self.rng.place(usable.len()) as usize;
+        usable.get(chosen).copied().unwrap_or(NO_VARIABLE)
     }
 
     // A box variable that statements may name, or none.
     fn usable_box(&mut self) -> Option<Var> {
         for _ in 0..TRIES {
             let x = self.usable();
-            if self.kind(x) > 0 && !self.scope.signature.is_lent(x) {
+            if self.kind(x) > 0 && !self.is_lent(x) {
                 return Some(x);
             }
         }
@@ -61,12 +86,8 @@ impl<'a> Author<'a> {
     }
 
     // Whether it is time to break the rule in a way that a statement of this form can.
-    pub fn is_due(&self, rule: Rule) -> bool {
-        self.wait == 0 && self.flaw == Some(rule)
-    }
-
-    pub fn break_rule(&mut self) {
-        self.broken = self.flaw.take();
+    fn is_due(&self, rule: Rule) -> bool {
+        self.wait == 0 && *self.flaw == Flaw::Wanted(rule)
     }
 
     fn constant(&mut self) -> u32 {
@@ -78,124 +99,111 @@ impl<'a> Author<'a> {
     }
 
     // A constant or a number variable.
-    fn operand(&mut self, rows: &mut Vec<u32>) -> Result<(), AllocError> {
-        let count = u32::try_from(self.scope.signature.kinds.len()).unwrap_or(0);
+    fn operand(&mut self) -> Expression {
         for _ in 0..4 {
-            let x = Var(self.rng.below(count));
+            let many = self.variables();
+            let x = Var(self.rng.place(many));
             if self.kind(x) == 0 && !self.rng.once_in(3) {
-                return rows.extend_from_slice(&[1, x.0]);
+                return Expression::Variable(x);
             }
         }
-        rows.extend_from_slice(&[0, self.constant()])
+        Expression::Number(self.constant())
     }
 
-    // An expression in prefix order.
-    pub fn expression(&mut self) -> Result<Vec<u32>, AllocError> {
-        let mut rows = Vec::new(self.heap);
-        let mut wanted = 1u32;
-        for _ in 0..5 {
-            if wanted > 0 && self.rng.once_in(2) {
-                rows.push(self.rng.below(4).saturating_add(2))?;
-                wanted = wanted.saturating_add(1);
-            } else if wanted > 0 {
-                self.operand(&mut rows)?;
-                wanted = wanted.saturating_sub(1);
-            }
+    // An expression, of which so many places may have an operator, the first in rows first. Says how many are left.
+    fn expression_within(&mut self, places: u32) -> Result<(Expression, u32), AllocError>
+        ensures { IfOk result (λ r. r.1 ≤ places) }
+    {
+        let Some(left) = places.checked_sub(1) else {
+            return Ok((self.operand(), 0));
+        };
+        if !self.rng.once_in(2) {
+            return Ok((self.operand(), left));
         }
-        for _ in 0..wanted {
-            self.operand(&mut rows)?;
-        }
-        Ok(rows)
+        let operator = drawn_operator(self.rng);
+        let (a, left) = self.expression_within(left)?;
+        let (b, left) = self.expression_within(left)?;
+        Ok((reckoned(self.heap, operator, a, b)?, left))
+    }
+
+    pub fn expression(&mut self) -> Result<Expression, AllocError> {
+        let (e, _) = self.expression_within(OPERATORS)?;
+        Ok(e)
     }
 
     // Makes a variable full from nothing, by the ladder.
-    pub fn make(&mut self, x: Var) -> Result<Vec<u32>, AllocError> {
-        let mut rows = Vec::new(self.heap);
+    pub fn make(&mut self, x: Var) -> Result<Statement, AllocError> {
         let kind = self.kind(x);
-        let constant = self.constant();
+        let first = Expression::Number(self.constant());
         if kind == 0 {
-            rows.extend_from_slice(&[2, x.0, 0, constant])?;
-            return Ok(rows);
+            return Ok(Statement::Set(x, first));
         }
-        let mut rung = self.role.ladder;
-        rows.extend_from_slice(&[1, 2, rung, 0, constant])?;
+        let mut rung = self.role().ladder;
+        let mut steps = vec![in self.heap; Statement::Set(rung, first)]?;
         for _ in 1..kind {
-            let next = rung.saturating_add(1);
-            rows.extend_from_slice(&[1, 3, next, rung])?;
+            let next = Var(rung.0.saturating_add(1));
+            steps.push(Statement::Between(Transfer::Box, next, rung))?;
             rung = next;
         }
-        rows.extend_from_slice(&[3, x.0, rung])?;
         self.full.add(x);
-        Ok(rows)
+        in_order(self.heap, steps, Statement::Between(Transfer::Box, x, rung))
     }
 
-    fn set(&mut self) -> Result<Vec<u32>, AllocError> {
-        let mut rows = Vec::new(self.heap);
+    fn set(&mut self) -> Result<Statement, AllocError> {
+        let scope = self.scope;
         for _ in 0..TRIES {
             let x = self.usable();
-            if self.scope.set(x).is_ok() {
-                rows.extend_from_slice(&[2, x.0])?;
-                rows.extend_from_slice(self.expression()?.as_slice())?;
-                return Ok(rows);
+            if scope.set(x).is_ok() {
+                return Ok(Statement::Set(x, self.expression()?));
             }
         }
-        self.skip()
+        Ok(Statement::Skip)
     }
 
-    fn skip(&mut self) -> Result<Vec<u32>, AllocError> {
-        Ok(vec![in self.heap; 0]?)
-    }
-
-    fn show(&mut self) -> Result<Vec<u32>, AllocError> {
-        let mut rows = vec![in self.heap; 12]?;
-        rows.extend_from_slice(self.expression()?.as_slice())?;
-        Ok(rows)
-    }
-
-    fn drop_box(&mut self) -> Result<Vec<u32>, AllocError> {
+    fn drop_box(&mut self) -> Statement {
         let Some(x) = self.usable_box() else {
-            return self.skip();
+            return Statement::Skip;
         };
         self.full.remove(x);
-        Ok(vec![in self.heap; 8, x.0]?)
+        Statement::Drop(x)
     }
 
-    fn make_some(&mut self) -> Result<Vec<u32>, AllocError> {
+    fn make_some(&mut self) -> Result<Statement, AllocError> {
         match self.usable_box() {
             Some(x) => self.make(x),
-            None => self.skip(),
+            None => Ok(Statement::Skip),
         }
     }
 
     // A box made, opened, looked into, filled or moved.
-    fn transfer(&mut self) -> Result<Vec<u32>, AllocError> {
-        let (head, what) = drawn_transfer(&mut self.rng);
+    fn transfer(&mut self) -> Result<Statement, AllocError> {
+        let what = drawn_transfer(self.rng);
         for _ in 0..TRIES {
             let x = self.usable();
             let y = self.usable();
             if let Ok(after) = self.scope.transfer(what, self.full, x, y) {
                 self.full = after;
-                return Ok(vec![in self.heap; head, x.0, y.0]?);
+                return Ok(Statement::Between(what, x, y));
             }
         }
         self.make_some()
     }
 
     // A statement without branches of its own, or the broken one.
-    fn plain(&mut self) -> Result<Vec<u32>, AllocError> {
+    fn plain(&mut self) -> Result<Statement, AllocError> {
         if self.wait == 0
-            && let Some(rule) = self.flaw
-            && let Some(rows) = self.flawed(rule)?
+            && let Flaw::Wanted(rule) = *self.flaw
+            && let Some(statement) = self.flawed(rule)?
         {
-            self.break_rule();
-            return Ok(rows);
+            *self.flaw = Flaw::Broken(rule);
+            return Ok(statement);
         }
         self.wait = self.wait.saturating_sub(1);
         match self.rng.below(24) {
-            0 => self.skip(),
+            0 => Ok(Statement::Skip),
             1..=2 => self.set(),
-            3..=4 => self.show(),
-            5 => self.drop_box(),
+            3..=4 => Ok(Statement::Show(self.expression()?)),
+            5 => Ok(self.drop_box()),
             6..=7 => self.make_some(),
             8..=11 => self.call(),
             _ => self.transfer(),
@@ -211,99 +219,91 @@ impl<'a> Author<'a> {
     }
 
     // Gives back what is full in the first and not in the second, and ends with a skip.
-    fn drops(&mut self, full: &Full, other: &Full) -> Result<Vec<u32>, AllocError> {
-        let mut rows = Vec::new(self.heap);
-        for x in 0..32 {
-            if full.has(Var(x)) && !other.has(Var(x)) {
-                rows.extend_from_slice(&[1, 8, x])?;
-            }
+    fn drops(&self, full: &Full, other: &Full) -> Result<Statement, AllocError> {
+        let mut drops = Vec::new(self.heap);
+        for x in only_in(self.heap, full, other)? {
+            drops.push(Statement::Drop(x))?;
         }
-        rows.push(0)?;
-        Ok(rows)
+        in_order(self.heap, drops, Statement::Skip)
     }
 
     // A branch, after both parts of which the same variables are full, unless that is the rule to break.
     pub fn join(
         &mut self,
-        test: &[u32],
-        s: &[u32],
+        test: Expression,
+        s: Statement,
         after_s: Full,
-        t: &[u32],
-    ) -> Result<Vec<u32>, AllocError> {
+        t: Statement,
+    ) -> Result<Statement, AllocError> {
         let after_t = self.full;
-        let mut rows = vec![in self.heap; 9]?;
-        rows.extend_from_slice(test)?;
-        if self.is_due(Rule::BranchesDiffer) && after_s.difference(&after_t).is_some() {
-            rows.extend_from_slice(s)?;
-            rows.extend_from_slice(t)?;
+        if self.is_due(Rule::BranchesDiffer) && after_s != after_t {
             self.full.add_all(&after_s);
-            self.break_rule();
-            return Ok(rows);
+            *self.flaw = Flaw::Broken(Rule::BranchesDiffer);
+            return branch(self.heap, test, s, t);
         }
-        rows.push(1)?;
-        rows.extend_from_slice(s)?;
-        rows.extend_from_slice(self.drops(&after_s, &after_t)?.as_slice())?;
-        rows.push(1)?;
-        rows.extend_from_slice(t)?;
-        rows.extend_from_slice(self.drops(&after_t, &after_s)?.as_slice())?;
+        let s = pair(self.heap, s, self.drops(&after_s, &after_t)?)?;
+        let t = pair(self.heap, t, self.drops(&after_t, &after_s)?)?;
         self.full.keep_only(&after_s);
-        Ok(rows)
+        branch(self.heap, test, s, t)
     }
 
     // Makes full what a loop's body has emptied, and gives back what it has filled.
-    fn restore(&mut self, before: &Full) -> Result<Vec<u32>, AllocError> {
-        let mut rows = Vec::new(self.heap);
+    fn restore(&mut self, before: &Full) -> Result<Statement, AllocError> {
         let after = self.full;
-        for x in 0..32 {
-            if before.has(Var(x)) && !after.has(Var(x)) {
-                rows.push(1)?;
-                rows.extend_from_slice(self.make(Var(x))?.as_slice())?;
-            }
+        let mut steps = Vec::new(self.heap);
+        for x in only_in(self.heap, before, &after)? {
+            steps.push(self.make(x)?)?;
         }
-        rows.extend_from_slice(self.drops(&after, before)?.as_slice())?;
+        let drops = self.drops(&after, before)?;
         self.full = *before;
-        Ok(rows)
+        in_order(self.heap, steps, drops)
+    }
+
+    // A loop's body, which leaves full what was so before, unless that is the rule to break.
+    fn closed(&mut self, before: Full, body: Statement) -> Result<Statement, AllocError> {
+        if self.is_due(Rule::LoopChanges) && before != self.full {
+            self.full = before;
+            *self.flaw = Flaw::Broken(Rule::LoopChanges);
+            return Ok(body);
+        }
+        let restored = self.restore(&before)?;
+        pair(self.heap, body, restored)
     }
 
     // A loop that counts down, or one that may go on for ever.
-    fn repeat(&mut self, depth: u32, before: Full, body: &[u32]) -> Result<Vec<u32>, AllocError> {
-        let counter = self
-            .role
-            .counters
-            .saturating_add(depth.min(LOOPS).saturating_sub(1));
+    fn repeat(
+        &mut self,
+        depth: u32,
+        before: Full,
+        body: Statement,
+    ) -> Result<Statement, AllocError> {
+        let level = depth.min(LOOPS).saturating_sub(1);
+        let counter = Var(self.role().counters.0.saturating_add(level));
         let turns = self.rng.below(5);
-        let counted = !self.rng.once_in(16);
-        let mut rows = vec![in self.heap; 1, 2, counter, 0, turns, 10]?;
-        if counted {
-            rows.extend_from_slice(&[1, counter])?;
+        let test = if self.rng.once_in(16) {
+            self.expression()?
         } else {
-            rows.extend_from_slice(self.expression()?.as_slice())?;
-        }
-        rows.extend_from_slice(&[1, 2, counter, 3, 1, counter, 0, 1])?;
-        if self.is_due(Rule::LoopChanges) && before.difference(&self.full).is_some() {
-            rows.extend_from_slice(body)?;
-            self.full = before;
-            self.break_rule();
-            return Ok(rows);
-        }
-        rows.push(1)?;
-        rows.extend_from_slice(body)?;
-        rows.extend_from_slice(self.restore(&before)?.as_slice())?;
-        Ok(rows)
+            Expression::Variable(counter)
+        };
+        let less = reckoned(
+            self.heap,
+            Operator::Subtract,
+            Expression::Variable(counter),
+            Expression::Number(1),
+        )?;
+        let body = self.closed(before, body)?;
+        let turn = pair(self.heap, Statement::Set(counter, less), body)?;
+        let whole = repeated(self.heap, test, turn)?;
+        let start = Statement::Set(counter, Expression::Number(turns));
+        pair(self.heap, start, whole)
     }
 
     // Statements one after the other, with branches and loops that nest at most so deep.
-    pub fn block(&mut self, depth: u32) -> Result<Vec<u32>, AllocError> {
-        let mut rows = Vec::new(self.heap);
+    pub fn block(&mut self, depth: u32) -> Result<Statement, AllocError> {
+        let mut statements = Vec::new(self.heap);
         let length = self.rng.below(6).saturating_add(1);
         let leftward = self.rng.once_in(3);
-        if leftward {
-            rows.extend_from_slice(ones(length))?;
-        }
         for _ in 0..length {
-            if !leftward {
-                rows.push(1)?;
-            }
             let choice = self.choose();
             let before = self.full;
             let statement = match (choice, depth.checked_sub(1)) {
@@ -313,64 +313,70 @@ impl<'a> Author<'a> {
                     let after_s = self.full;
                     self.full = before;
                     let t = self.block(inner)?;
-                    self.join(test.as_slice(), s.as_slice(), after_s, t.as_slice())?
+                    self.join(test, s, after_s, t)?
                 }
                 (Choice::Loop, Some(inner)) => {
                     let body = self.block(inner)?;
-                    self.repeat(depth, before, body.as_slice())?
+                    self.repeat(depth, before, body)?
                 }
                 _ => self.plain()?,
             };
-            rows.extend_from_slice(statement.as_slice())?;
+            statements.push(statement)?;
         }
-        rows.push(0)?;
-        Ok(rows)
+        if leftward {
+            in_order_leftward(self.heap, statements, Statement::Skip)
+        } else {
+            in_order(self.heap, statements, Statement::Skip)
+        }
     }
 
     // A few statements that are reached whenever the procedure is.
-    fn opening(&mut self) -> Result<Vec<u32>, AllocError> {
-        let mut rows = vec![in self.heap; 1]?;
-        rows.extend_from_slice(self.call_next()?.as_slice())?;
+    fn opening(&mut self) -> Result<Statement, AllocError> {
+        let mut statements = vec![in self.heap; self.call_next()?]?;
         for _ in 0..OPENING {
-            rows.push(1)?;
-            rows.extend_from_slice(self.plain()?.as_slice())?;
+            statements.push(self.plain()?)?;
         }
-        rows.push(0)?;
-        Ok(rows)
+        in_order(self.heap, statements, Statement::Skip)
     }
 
-    // A whole body: its result is full at the end, unless that is the rule to break.
-    pub fn body(&mut self, depth: u32) -> Result<Vec<u32>, AllocError> {
-        let mut rows = vec![in self.heap; 1, 1]?;
-        rows.extend_from_slice(self.opening()?.as_slice())?;
-        rows.extend_from_slice(self.block(depth)?.as_slice())?;
-        let result = self.scope.signature.result;
+    // The last statement: the result is full after it, unless that is the rule to break.
+    fn ending(&mut self) -> Result<Statement, AllocError> {
+        let result = self.scope.procedure.signature.result;
         if self.full.has(result) {
-            rows.push(0)?;
-        } else if self.flaw == Some(Rule::ResultEmpty) {
-            self.break_rule();
-            rows.push(0)?;
-        } else {
-            rows.extend_from_slice(self.make(result)?.as_slice())?;
+            return Ok(Statement::Skip);
         }
-        Ok(rows)
+        if *self.flaw == Flaw::Wanted(Rule::ResultEmpty) {
+            *self.flaw = Flaw::Broken(Rule::ResultEmpty);
+            return Ok(Statement::Skip);
+        }
+        self.make(result)
+    }
+
+    // A whole body.
+    pub fn body(&mut self, depth: u32) -> Result<Statement, AllocError> {
+        let opening = self.opening()?;
+        let block = self.block(depth)?;
+        let ending = self.ending()?;
+        let before = pair(self.heap, opening, block)?;
+        pair(self.heap, before, ending)
     }
 }
 
-// So many heads of pairs, six at most.
-fn ones(length: u32) -> &'static [u32] {
-    const ONES: [u32; 6] = [1; 6];
-    let all: &'static [u32] = &ONES;
-    all.get(0..length as usize).unwrap_or(all)
+fn drawn_operator(rng: &mut Rng) -> Operator {
+    match rng.below(4) {
+        0 => Operator::Add,
+        1 => Operator::Subtract,
+        2 => Operator::Multiply,
+        _ => Operator::Less,
+    }
 }
 
-// A transfer, with its number in rows.
-pub fn drawn_transfer(rng: &mut Rng) -> (u32, Transfer) {
+pub fn drawn_transfer(rng: &mut Rng) -> Transfer {
     match rng.below(5) {
-        0 => (3, Transfer::Box),
-        1 => (4, Transfer::Unbox),
-        2 => (5, Transfer::Look),
-        3 => (6, Transfer::Fill),
-        _ => (7, Transfer::Move),
+        0 => Transfer::Box,
+        1 => Transfer::Unbox,
+        2 => Transfer::Look,
+        3 => Transfer::Fill,
+        _ => Transfer::Move,
     }
 }

@@ -1,45 +1,22 @@
 use crate::author::{Author, TRIES};
-use reference::tree::{Argument, Mark, Signature, Var};
+use crate::build::{in_order, reckoned};
+use crate::plan::Roles;
+use reference::tree::{Argument, Call, Expression, Mark, Operator, Procedure, Statement, Var};
 use std::alloc::AllocError;
-
-// The words of a call.
-pub fn call_rows(
-    rows: &mut Vec<u32>,
-    x: Var,
-    f: u32,
-    arguments: &[Argument],
-) -> Result<(), AllocError> {
-    let many = u32::try_from(arguments.len()).unwrap_or(0);
-    rows.extend_from_slice(&[11, x.0, f, many])?;
-    for argument in arguments {
-        let mark = match argument.mark {
-            Mark::Over => 0,
-            Mark::Lent => 1,
-        };
-        rows.extend_from_slice(&[argument.var.0, mark])?;
-    }
-    Ok(())
-}
 
 impl<'a> Author<'a> {
     // Whether a variable can be made to pass for an argument behind these others.
     fn fits(&self, argument: Argument, kind: u32, others: &[Argument]) -> bool {
-        if self.kind(argument.var) != kind {
-            return false;
-        }
-        for other in others {
-            if kind > 0 && other.var == argument.var {
-                return false;
-            }
-        }
-        kind == 0 || argument.mark == Mark::Lent || !self.scope.signature.is_lent(argument.var)
+        let free = argument.mark == Mark::Lent || !self.is_lent(argument.var);
+        let alone = !others.iter().any(|other| other.var == argument.var);
+        self.kind(argument.var) == kind && (kind == 0 || free && alone)
     }
 
     // A variable that statements may name. What is lent is often lent on.
     fn lendable(&mut self, mark: Mark) -> Var {
-        let own = u32::try_from(self.scope.signature.marks.len()).unwrap_or(0);
+        let own = self.scope.procedure.signature.marks.len();
         if mark == Mark::Lent && own > 0 && self.rng.once_in(2) {
-            return Var(self.rng.below(own));
+            return Var(self.rng.place(own));
         }
         self.usable()
     }
@@ -59,73 +36,80 @@ impl<'a> Author<'a> {
     }
 
     // The fuel for a call: the procedure's own, if it has any, and one less for a call that may come back.
-    fn fuel(&mut self, f: u32, rows: &mut Vec<u32>) -> Result<(), AllocError> {
-        rows.extend_from_slice(&[1, 2, self.role.ladder])?;
-        match self.role.fuel {
-            Some(own) if f > self.number => rows.extend_from_slice(&[1, own.0]),
-            Some(own) => rows.extend_from_slice(&[3, 1, own.0, 0, 1]),
-            None => rows.extend_from_slice(&[0, self.rng.below(4)]),
+    fn fuel(&mut self, f: u32) -> Result<Expression, AllocError> {
+        match self.role().fuel {
+            Some(own) if f > self.number => Ok(Expression::Variable(own)),
+            Some(own) => reckoned(
+                self.heap,
+                Operator::Subtract,
+                Expression::Variable(own),
+                Expression::Number(1),
+            ),
+            None => Ok(Expression::Number(self.rng.below(4))),
         }
     }
 
-    // Chooses arguments, and makes full what is empty. Fewer come back where one was not found.
+    // Chooses arguments, and makes full what is empty before the call. Fewer come back where one was not found.
     fn arguments(
         &mut self,
         f: u32,
-        called: &Signature,
-        rows: &mut Vec<u32>,
+        called: &Procedure<Roles>,
+        before: &mut Vec<Statement>,
     ) -> Result<Vec<Argument>, AllocError> {
+        let ladder = self.role().ladder;
+        let fueled = called.body.fuel.is_some();
+        let signature = &called.signature;
         let mut chosen = Vec::new(self.heap);
-        let fueled = match self.roles.get(f as usize) {
-            Some(role) => role.fuel.is_some(),
-            None => false,
-        };
-        for (i, mark) in called.marks.iter().enumerate() {
-            let kind = called.kinds.get(i).copied().unwrap_or(0);
+        for (i, (mark, kind)) in signature
+            .marks
+            .iter()
+            .zip(signature.kinds.iter())
+            .enumerate()
+        {
             if fueled && i == 0 {
                 chosen.push(Argument {
-                    var: Var(self.role.ladder),
+                    var: ladder,
                     mark: *mark,
                 })?;
-            } else if let Some(argument) = self.argument(*mark, kind, chosen.as_slice()) {
+            } else if let Some(argument) = self.argument(*mark, *kind, chosen.as_slice()) {
                 if !self.full.has(argument.var) {
-                    rows.push(1)?;
-                    rows.extend_from_slice(self.make(argument.var)?.as_slice())?;
+                    before.push(self.make(argument.var)?)?;
                 }
                 chosen.push(argument)?;
             }
         }
         if fueled {
-            self.fuel(f, rows)?;
+            before.push(Statement::Set(ladder, self.fuel(f)?))?;
         }
         Ok(chosen)
     }
 
     // A call, with what it needs before it.
-    fn call_of(&mut self, f: u32) -> Result<Vec<u32>, AllocError> {
-        let mut rows = Vec::new(self.heap);
-        let Some(called) = self.scope.signatures.get(f as usize) else {
-            rows.push(0)?;
-            return Ok(rows);
+    fn call_of(&mut self, f: u32) -> Result<Statement, AllocError> {
+        let Some(called) = self.scope.procedures.get(f as usize) else {
+            return Ok(Statement::Skip);
         };
-        let arguments = self.arguments(f, called, &mut rows)?;
+        let mut before = Vec::new(self.heap);
+        let mut call = Call {
+            into: Var(0),
+            procedure: f,
+            arguments: self.arguments(f, called, &mut before)?,
+        };
         for _ in 0..TRIES {
-            let x = self.usable();
-            if let Ok(after) = self.scope.call(self.full, x, f, arguments.as_slice()) {
+            call.into = self.usable();
+            if let Ok(after) = self.scope.call(self.full, &call) {
                 self.full = after;
-                call_rows(&mut rows, x, f, arguments.as_slice())?;
-                return Ok(rows);
+                return in_order(self.heap, before, Statement::Call(call));
             }
         }
-        rows.push(0)?;
-        Ok(rows)
+        in_order(self.heap, before, Statement::Skip)
     }
 
     // A procedure to call: a later one, unless fuel keeps calls from going round for ever.
     fn callee(&mut self) -> u32 {
-        let count = u32::try_from(self.scope.signatures.len()).unwrap_or(0);
+        let count = u32::try_from(self.scope.procedures.len()).unwrap_or(0);
         let next = self.number.saturating_add(1);
-        if next < count && (self.role.fuel.is_none() || self.rng.once_in(2)) {
+        if next < count && (self.role().fuel.is_none() || self.rng.once_in(2)) {
             return self
                 .rng
                 .below(count.saturating_sub(next))
@@ -135,23 +119,23 @@ impl<'a> Author<'a> {
     }
 
     // A call of the next procedure, so that it is reached; a skip where there is none.
-    pub fn call_next(&mut self) -> Result<Vec<u32>, AllocError> {
+    pub fn call_next(&mut self) -> Result<Statement, AllocError> {
         self.call_of(self.number.saturating_add(1))
     }
 
     // A call. One that may come back to this procedure is mostly made only while there is fuel.
-    pub fn call(&mut self) -> Result<Vec<u32>, AllocError> {
+    pub fn call(&mut self) -> Result<Statement, AllocError> {
         let f = self.callee();
         if f > self.number || self.rng.once_in(20) {
             return self.call_of(f);
         }
-        let Some(fuel) = self.role.fuel else {
-            return Ok(vec![in self.heap; 0]?);
+        let Some(fuel) = self.role().fuel else {
+            return Ok(Statement::Skip);
         };
         let before = self.full;
-        let rows = self.call_of(f)?;
+        let call = self.call_of(f)?;
         let after = self.full;
         self.full = before;
-        self.join(&[1, fuel.0], rows.as_slice(), after, &[0])
+        self.join(Expression::Variable(fuel), call, after, Statement::Skip)
     }
 }

@@ -12,8 +12,7 @@ fn drawn_word(rng: &mut Rng, old: u32) -> u32 {
 }
 
 fn spoil(rng: &mut Rng, rows: &mut Vec<u32>) {
-    let count = u32::try_from(rows.len()).unwrap_or(0);
-    let at = rng.below(count) as usize;
+    let at = rng.place(rows.len()) as usize;
     if let Some(place) = rows.get_mut(at) {
         *place = drawn_word(rng, *place);
     }
@@ -28,10 +27,7 @@ pub fn damaged(rng: &mut Rng, heap: Global, rows: &[u32]) -> Result<Vec<u32>, Al
             spoil(rng, &mut bad);
             spoil(rng, &mut bad);
         }
-        6 => {
-            let count = u32::try_from(rows.len()).unwrap_or(0);
-            bad.truncate(rng.below(count) as usize);
-        }
+        6 => bad.truncate(rng.place(rows.len()) as usize),
         _ => {
             let more = rng.below(6).saturating_add(1);
             for _ in 0..more {

@@ -1,7 +1,6 @@
 use crate::author::{Author, drawn_transfer};
-use crate::calls::call_rows;
 use reference::rules::Rule;
-use reference::tree::{Argument, Mark, Signature, Token, Var};
+use reference::tree::{Argument, Call, Expression, Mark, Signature, Statement, Var};
 use std::alloc::AllocError;
 
 // How many statements are tried until one breaks the rule.
@@ -10,75 +9,63 @@ const CANDIDATES: u32 = 300;
 // A statement, and the rule that it breaks.
 #[derive(Drop)]
 struct Candidate {
-    rows: Vec<u32>,
+    statement: Statement,
     breaks: Option<Rule>,
-}
-
-fn rule_of<T: Drop>(verdict: Result<T, Rule>) -> Option<Rule> {
-    match verdict {
-        Ok(_) => None,
-        Err(rule) => Some(rule),
-    }
 }
 
 impl<'a> Author<'a> {
     // Any variable, now and then one that is not there.
     fn any(&mut self) -> Var {
-        let count = u32::try_from(self.scope.signature.kinds.len()).unwrap_or(0);
-        Var(self.rng.below(count.saturating_add(1)))
+        let many = self.variables().saturating_add(1);
+        Var(self.rng.place(many))
     }
 
     // Mostly a variable of a kind.
     fn any_of(&mut self, kind: u32) -> Var {
         for _ in 0..40 {
             let x = self.any();
-            if self.scope.signature.kind(x) == Some(kind) {
+            if self.scope.procedure.signature.kind(x) == Some(kind) {
                 return x;
             }
         }
         self.any()
     }
 
-    fn candidate_set(&mut self) -> Result<Candidate, AllocError> {
+    fn candidate_set(&mut self) -> Candidate {
         let x = self.any();
-        let y = self.any();
-        let breaks = match self.scope.set(x) {
-            Ok(()) => rule_of(self.scope.reckon(&[Token::Variable(y)])),
-            Err(rule) => Some(rule),
-        };
-        Ok(Candidate {
-            rows: vec![in self.heap; 2, x.0, 1, y.0]?,
-            breaks,
-        })
+        let e = Expression::Variable(self.any());
+        let scope = self.scope;
+        Candidate {
+            breaks: scope.set(x).and_then(|()| scope.reckon(&e)).err(),
+            statement: Statement::Set(x, e),
+        }
     }
 
-    fn candidate_show(&mut self) -> Result<Candidate, AllocError> {
-        let y = self.any();
-        let breaks = rule_of(self.scope.reckon(&[Token::Variable(y)]));
-        Ok(Candidate {
-            rows: vec![in self.heap; 12, 1, y.0]?,
-            breaks,
-        })
+    fn candidate_show(&mut self) -> Candidate {
+        let e = Expression::Variable(self.any());
+        let scope = self.scope;
+        Candidate {
+            breaks: scope.reckon(&e).err(),
+            statement: Statement::Show(e),
+        }
     }
 
-    fn candidate_drop(&mut self) -> Result<Candidate, AllocError> {
+    fn candidate_drop(&mut self) -> Candidate {
         let x = self.any();
-        let breaks = rule_of(self.scope.drop_box(self.full, x));
-        Ok(Candidate {
-            rows: vec![in self.heap; 8, x.0]?,
-            breaks,
-        })
+        Candidate {
+            breaks: self.scope.drop_box(self.full, x).err(),
+            statement: Statement::Drop(x),
+        }
     }
 
-    fn candidate_transfer(&mut self) -> Result<Candidate, AllocError> {
-        let (head, what) = drawn_transfer(&mut self.rng);
+    fn candidate_transfer(&mut self) -> Candidate {
+        let what = drawn_transfer(self.rng);
         let x = self.any();
         let y = if self.rng.once_in(6) { x } else { self.any() };
-        let breaks = rule_of(self.scope.transfer(what, self.full, x, y));
-        Ok(Candidate {
-            rows: vec![in self.heap; head, x.0, y.0]?,
-            breaks,
-        })
+        Candidate {
+            breaks: self.scope.transfer(what, self.full, x, y).err(),
+            statement: Statement::Between(what, x, y),
+        }
     }
 
     // An argument that mostly fits.
@@ -88,27 +75,18 @@ impl<'a> Author<'a> {
         } else {
             self.any_of(kind)
         };
-        if !self.rng.once_in(10) {
-            return Argument { var, mark };
-        }
-        match mark {
-            Mark::Over => Argument {
-                var,
-                mark: Mark::Lent,
-            },
-            Mark::Lent => Argument {
-                var,
-                mark: Mark::Over,
-            },
-        }
+        let other = match mark {
+            Mark::Over => Mark::Lent,
+            Mark::Lent => Mark::Over,
+        };
+        let mark = if self.rng.once_in(10) { other } else { mark };
+        Argument { var, mark }
     }
 
     fn careless_arguments(&mut self, called: &Signature) -> Result<Vec<Argument>, AllocError> {
         let mut arguments = Vec::new(self.heap);
-        for (i, mark) in called.marks.iter().enumerate() {
-            let kind = called.kinds.get(i).copied().unwrap_or(0);
-            let argument = self.careless_argument(kind, *mark);
-            arguments.push(argument)?;
+        for (mark, kind) in called.marks.iter().zip(called.kinds.iter()) {
+            arguments.push(self.careless_argument(*kind, *mark))?;
         }
         if self.rng.once_in(10) {
             arguments.push(Argument {
@@ -135,39 +113,42 @@ impl<'a> Author<'a> {
         self.any_of(called.kind(called.result).unwrap_or(0))
     }
 
+    // A call of a procedure, now and then of one that is not there.
     fn candidate_call(&mut self) -> Result<Candidate, AllocError> {
-        let signatures = self.scope.signatures;
-        let count = u32::try_from(signatures.len()).unwrap_or(0);
-        let f = self.rng.below(count.saturating_add(1));
-        let mut rows = Vec::new(self.heap);
-        let Some(called) = signatures.get(f as usize) else {
-            let x = self.any_of(0);
-            call_rows(&mut rows, x, f, &[])?;
-            return Ok(Candidate {
-                rows,
-                breaks: Some(Rule::NoProcedure),
-            });
+        let many = self.scope.procedures.len().saturating_add(1);
+        let procedure = self.rng.place(many);
+        let (into, arguments) = match self.scope.procedures.get(procedure as usize) {
+            Some(called) => {
+                let arguments = self.careless_arguments(&called.signature)?;
+                let into = self.careless_target(arguments.as_slice(), &called.signature);
+                (into, arguments)
+            }
+            None => (self.any_of(0), Vec::new(self.heap)),
         };
-        let arguments = self.careless_arguments(called)?;
-        let x = self.careless_target(arguments.as_slice(), called);
-        call_rows(&mut rows, x, f, arguments.as_slice())?;
-        let breaks = rule_of(self.scope.call(self.full, x, f, arguments.as_slice()));
-        Ok(Candidate { rows, breaks })
+        let call = Call {
+            into,
+            procedure,
+            arguments,
+        };
+        Ok(Candidate {
+            breaks: self.scope.call(self.full, &call).err(),
+            statement: Statement::Call(call),
+        })
     }
 
     // A statement that breaks a rule here, if one was found.
-    pub fn flawed(&mut self, rule: Rule) -> Result<Option<Vec<u32>>, AllocError> {
+    pub fn flawed(&mut self, rule: Rule) -> Result<Option<Statement>, AllocError> {
         for _ in 0..CANDIDATES {
             let candidate = match self.rng.below(8) {
-                0 => self.candidate_set()?,
-                1 => self.candidate_show()?,
-                2 => self.candidate_drop()?,
+                0 => self.candidate_set(),
+                1 => self.candidate_show(),
+                2 => self.candidate_drop(),
                 3..=4 => self.candidate_call()?,
-                _ => self.candidate_transfer()?,
+                _ => self.candidate_transfer(),
             };
-            let Candidate { rows, breaks } = candidate;
+            let Candidate { statement, breaks } = candidate;
             if breaks == Some(rule) {
-                return Ok(Some(rows));
+                return Ok(Some(statement));
             }
         }
         Ok(None)

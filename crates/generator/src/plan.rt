@@ -1,6 +1,7 @@
+use crate::flaw::Flaw;
 use crate::rng::Rng;
 use reference::rules::Rule;
-use reference::tree::{Mark, Signature, Var};
+use reference::tree::{Mark, Procedure, Signature, Var};
 use std::alloc::{AllocError, Global};
 
 // Loops nest at most so deep.
@@ -12,9 +13,9 @@ pub struct Roles {
     // what any statement may name
     pub usable: Vec<Var>,
     // the first of the numbers that loops count down, one for each depth
-    pub counters: u32,
+    pub counters: Var,
     // a number and a box of each kind below the deepest, empty between statements: boxes are made by it
-    pub ladder: u32,
+    pub ladder: Var,
     // the argument that says how often calls may go round
     pub fuel: Option<Var>,
 }
@@ -22,9 +23,8 @@ pub struct Roles {
 // What is decided before bodies are written.
 #[derive(Drop)]
 pub struct Plan {
-    pub signatures: Vec<Signature>,
-    pub roles: Vec<Roles>,
-    pub broken: Option<Rule>,
+    pub procedures: Vec<Procedure<Roles>>,
+    pub flaw: Flaw,
 }
 
 // The variables of a procedure while they are laid out.
@@ -35,8 +35,8 @@ struct Layout {
 }
 
 impl Layout {
-    fn next(&self) -> u32 {
-        u32::try_from(self.kinds.len()).unwrap_or(u32::MAX)
+    fn next(&self) -> Var {
+        Var(u32::try_from(self.kinds.len()).unwrap_or(u32::MAX))
     }
 
     fn reserve(&mut self, kind: u32) -> Result<(), AllocError> {
@@ -45,140 +45,141 @@ impl Layout {
     }
 
     fn offer(&mut self, kind: u32) -> Result<(), AllocError> {
-        let x = Var(self.next());
+        let x = self.next();
         self.usable.push(x)?;
-        self.kinds.push(kind)?;
-        Ok(())
+        self.reserve(kind)
     }
+}
 
+// Draws signatures.
+#[derive(Drop)]
+struct Planner<'a> {
+    rng: &'a mut Rng,
+    heap: Global,
+    deepest: u32,
+    wanted: Option<Rule>,
+}
+
+impl<'a> Planner<'a> {
     // Arguments, of which the first may be fuel. Gives their marks.
     fn arguments(
         &mut self,
-        rng: &mut Rng,
-        heap: Global,
+        layout: &mut Layout,
         count: u32,
-        deepest: u32,
         fueled: bool,
     ) -> Result<Vec<Mark>, AllocError> {
-        let mut marks = Vec::new(heap);
+        let mut marks = Vec::new(self.heap);
         for x in 0..count {
-            let mark = if rng.once_in(2) {
+            let mark = if self.rng.once_in(2) {
                 Mark::Over
             } else {
                 Mark::Lent
             };
             marks.push(mark)?;
-            let kind = rng.below(deepest.saturating_add(1));
+            let kind = self.rng.below(self.deepest.saturating_add(1));
             if fueled && x == 0 {
-                self.reserve(0)?;
+                layout.reserve(0)?;
             } else {
-                self.offer(kind)?;
+                layout.offer(kind)?;
             }
         }
         Ok(marks)
     }
 
     // Variables that are neither arguments nor result. Gives the counters and the ladder.
-    fn locals(&mut self, rng: &mut Rng, deepest: u32) -> Result<(u32, u32), AllocError> {
-        let counters = self.next();
+    fn locals(&mut self, layout: &mut Layout) -> Result<(Var, Var), AllocError> {
+        let counters = layout.next();
         for _ in 0..LOOPS {
-            self.reserve(0)?;
+            layout.reserve(0)?;
         }
-        let ladder = self.next();
-        for kind in 0..deepest {
-            self.reserve(kind)?;
+        let ladder = layout.next();
+        for kind in 0..self.deepest {
+            layout.reserve(kind)?;
         }
-        self.offer(0)?;
-        for kind in 0..=deepest {
-            self.offer(kind)?;
+        layout.offer(0)?;
+        for kind in 0..=self.deepest {
+            layout.offer(kind)?;
         }
         // 32 variables in all
-        let more = if deepest > 5 {
-            rng.below(3)
-        } else {
-            rng.below(5)
-        };
+        let more = self.rng.below(if self.deepest > 5 { 3 } else { 5 });
         for _ in 0..more {
-            self.offer(rng.below(deepest).saturating_add(1))?;
+            let kind = self.rng.below(self.deepest).saturating_add(1);
+            layout.offer(kind)?;
         }
         Ok((counters, ladder))
     }
-}
 
-fn argument_count(rng: &mut Rng, first: bool, broken: Option<Rule>) -> u32 {
-    if first && broken == Some(Rule::FirstHasArguments) {
-        return 1;
-    }
-    if first {
-        return 0;
-    }
-    if rng.once_in(8) {
-        return rng.below(9);
-    }
-    rng.below(4).saturating_add(1)
-}
-
-fn result_kind(rng: &mut Rng, first: bool, deepest: u32, broken: Option<Rule>) -> u32 {
-    if first && broken == Some(Rule::FirstGivesBox) {
-        return 1;
-    }
-    if first || rng.once_in(3) {
-        return 0;
-    }
-    rng.below(deepest).saturating_add(1)
-}
-
-// A signature, and what its variables are for.
-fn procedure(
-    rng: &mut Rng,
-    heap: Global,
-    first: bool,
-    deepest: u32,
-    broken: Option<Rule>,
-) -> Result<(Signature, Roles), AllocError> {
-    let mut layout = Layout {
-        kinds: Vec::new(heap),
-        usable: Vec::new(heap),
-    };
-    let arguments = argument_count(rng, first, broken);
-    let fueled = arguments > 0 && !rng.once_in(6);
-    let marks = layout.arguments(rng, heap, arguments, deepest, fueled)?;
-    let mut result = Var(arguments);
-    let kind = result_kind(rng, first, deepest, broken);
-    layout.offer(kind)?;
-    let (counters, ladder) = layout.locals(rng, deepest)?;
-    if broken == Some(Rule::ResultIsArgument) && arguments > 0 {
-        result = Var(0);
-    }
-    let Layout { kinds, usable } = layout;
-    let fuel = if fueled { Some(Var(0)) } else { None };
-    let signature = Signature {
-        kinds,
-        marks,
-        result,
-    };
-    let roles = Roles {
-        usable,
-        counters,
-        ladder,
-        fuel,
-    };
-    Ok((signature, roles))
-}
-
-// The rule that the signatures break, if they are to break one and could.
-fn broken_by(signatures: &[Signature], wanted: Option<Rule>) -> Option<Rule> {
-    match wanted {
-        Some(Rule::FirstHasArguments | Rule::FirstGivesBox) => wanted,
-        Some(Rule::ResultIsArgument) => {
-            for signature in signatures {
-                if signature.is_argument(signature.result) {
-                    return wanted;
-                }
-            }
-            None
+    fn argument_count(&mut self, first: bool) -> u32 {
+        if first {
+            return u32::from(self.wanted == Some(Rule::FirstHasArguments));
         }
-        _ => None,
+        if self.rng.once_in(8) {
+            return self.rng.below(9);
+        }
+        self.rng.below(4).saturating_add(1)
+    }
+
+    fn result_kind(&mut self, first: bool) -> u32 {
+        if first {
+            return u32::from(self.wanted == Some(Rule::FirstGivesBox));
+        }
+        if self.rng.once_in(3) {
+            return 0;
+        }
+        self.rng.below(self.deepest).saturating_add(1)
+    }
+
+    // A signature, and what its variables are for.
+    fn procedure(&mut self, first: bool) -> Result<Procedure<Roles>, AllocError> {
+        let mut layout = Layout {
+            kinds: Vec::new(self.heap),
+            usable: Vec::new(self.heap),
+        };
+        let arguments = self.argument_count(first);
+        let fueled = arguments > 0 && !self.rng.once_in(6);
+        let marks = self.arguments(&mut layout, arguments, fueled)?;
+        let own_result = layout.next();
+        let kind = self.result_kind(first);
+        layout.offer(kind)?;
+        let (counters, ladder) = self.locals(&mut layout)?;
+        let result = if self.wanted == Some(Rule::ResultIsArgument) && arguments > 0 {
+            Var(0)
+        } else {
+            own_result
+        };
+        let Layout { kinds, usable } = layout;
+        Ok(Procedure {
+            signature: Signature {
+                kinds,
+                marks,
+                result,
+            },
+            body: Roles {
+                usable,
+                counters,
+                ladder,
+                fuel: fueled.then_some(Var(0)),
+            },
+        })
+    }
+}
+
+// What the signatures make of the rule that is wanted: some rules only they can break.
+fn flaw_of(procedures: &[Procedure<Roles>], wanted: Option<Rule>) -> Flaw {
+    let Some(rule) = wanted else {
+        return Flaw::Nothing;
+    };
+    let broken = match rule {
+        Rule::FirstHasArguments | Rule::FirstGivesBox => true,
+        Rule::ResultIsArgument => procedures.iter().any(|procedure| procedure
+            .signature
+            .is_argument(procedure.signature.result)),
+        _ => false,
+    };
+    if broken {
+        Flaw::Broken(rule)
+    } else {
+        Flaw::Wanted(rule)
     }
 }
 
@@ -191,17 +192,16 @@ pub fn make_plan(rng: &mut Rng, heap: Global, wanted: Option<Rule>) -> Result<Pl
     }
     .saturating_add(1);
     let count = rng.below(5).saturating_add(1);
-    let mut signatures = Vec::new(heap);
-    let mut roles = Vec::new(heap);
+    let mut planner = Planner {
+        rng,
+        heap,
+        deepest,
+        wanted,
+    };
+    let mut procedures = Vec::new(heap);
     for number in 0..count {
-        let (signature, role) = procedure(rng, heap, number == 0, deepest, wanted)?;
-        signatures.push(signature)?;
-        roles.push(role)?;
+        procedures.push(planner.procedure(number == 0)?)?;
     }
-    let broken = broken_by(signatures.as_slice(), wanted);
-    Ok(Plan {
-        signatures,
-        roles,
-        broken,
-    })
+    let flaw = flaw_of(procedures.as_slice(), wanted);
+    Ok(Plan { procedures, flaw })
 }

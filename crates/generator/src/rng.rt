@@ -1,5 +1,5 @@
 // Numbers that look random, the same for the same seed.
-#[derive(Clone, Copy)]
+#[derive(Clone, Copy, Debug, PartialEq, Eq)]
 pub struct Rng {
     state: u64,
 }
@@ -29,6 +29,11 @@ impl Rng {
     pub fn below(&mut self, end: u32) -> u32 {
         let word = self.word();
         if end == 0 { 0 } else { word % end }
+    }
+
+    // The place of one of so many things.
+    pub(crate) fn place(&mut self, many: usize) -> u32 {
+        self.below(u32::try_from(many).unwrap_or(0))
     }
 
     // True once in so many times.

@@ -1,12 +1,13 @@
 use std::alloc::{AllocError, Global};
 use std::collections::BTreeMap;
+use std::fmt;
 
 // The name of a box: how many were made before it. No two boxes ever have the same.
-#[derive(Clone, Copy, PartialEq, Eq, PartialOrd, Ord)]
+#[derive(Clone, Copy, Debug, PartialEq, Eq, PartialOrd, Ord)]
 pub struct Name(pub u32);
 
 // What a variable or a box holds.
-#[derive(Clone, Copy, PartialEq, Eq)]
+#[derive(Clone, Copy, Debug, PartialEq, Eq)]
 pub enum Value {
     Number(u32),
     Boxed(Name),
@@ -14,12 +15,54 @@ pub enum Value {
 }
 
 // What goes wrong in a careless program.
-#[derive(Clone, Copy, PartialEq, Eq)]
+#[derive(Clone, Copy, Debug, PartialEq, Eq)]
 pub enum Fault {
     Empty,
     Gone,
     NoNumber,
     NoProcedure,
+}
+
+impl Fault {
+    pub const ALL: [Fault; 4] = [
+        Fault::Empty,
+        Fault::Gone,
+        Fault::NoNumber,
+        Fault::NoProcedure,
+    ];
+}
+
+impl fmt::Display for Fault {
+    fn fmt<W: fmt::Write>(&self, f: &mut fmt::Formatter<W>) -> fmt::Result {
+        f.write_str(match self {
+            Fault::Empty => "taken from an empty variable",
+            Fault::Gone => "the box is gone",
+            Fault::NoNumber => "no number where one is wanted",
+            Fault::NoProcedure => "the procedure is not there",
+        })
+    }
+}
+
+impl TryFrom<Value> for u32 {
+    type Error = Fault;
+
+    fn try_from(value: Value) -> Result<u32, Fault> {
+        match value {
+            Value::Number(number) => Ok(number),
+            Value::Boxed(_) | Value::Empty => Err(Fault::NoNumber),
+        }
+    }
+}
+
+impl TryFrom<Value> for Name {
+    type Error = Fault;
+
+    fn try_from(value: Value) -> Result<Name, Fault> {
+        match value {
+            Value::Boxed(name) => Ok(name),
+            Value::Number(_) | Value::Empty => Err(Fault::Empty),
+        }
+    }
 }
 
 // The boxes there are, by name.
@@ -50,29 +93,20 @@ impl Boxes {
 
     // What is in a box.
     pub fn open(&self, holder: Value) -> Result<Value, Fault> {
-        let Value::Boxed(name) = holder else {
-            return Err(Fault::Empty);
-        };
+        let name = Name::try_from(holder)?;
         self.held.get(&name).copied().ok_or(Fault::Gone)
     }
 
     // Puts something into a box, over what is in it.
     pub fn store(&mut self, holder: Value, value: Value) -> Result<(), Fault> {
-        let Value::Boxed(name) = holder else {
-            return Err(Fault::Empty);
-        };
-        let Some(place) = self.held.get_mut(&name) else {
-            return Err(Fault::Gone);
-        };
-        *place = value;
+        let name = Name::try_from(holder)?;
+        *self.held.get_mut(&name).ok_or(Fault::Gone)? = value;
         Ok(())
     }
 
     // Takes a box away. Gives what was in it.
     pub fn free(&mut self, holder: Value) -> Result<Value, Fault> {
-        let Value::Boxed(name) = holder else {
-            return Err(Fault::Empty);
-        };
+        let name = Name::try_from(holder)?;
         self.held.remove(&name).ok_or(Fault::Gone)
     }
 

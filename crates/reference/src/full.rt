@@ -3,70 +3,52 @@ use crate::tree::{Signature, Var};
 // More variables no procedure has.
 const VARIABLES: usize = 32;
 
-// Which variables are full: every number, and boxes as the text says.
-#[derive(Clone, Copy)]
+// Which variables are full: every number, and boxes as the text says. An array and no set, since nothing here may run
+// out of memory.
+#[derive(Clone, Copy, Debug, PartialEq, Eq)]
 pub struct Full {
-    variables: [bool; 32],
+    variables: [bool; VARIABLES],
 }
 
 impl Full {
     // What is full where a procedure begins.
     pub fn at_start(signature: &Signature) -> Full {
-        let mut full = Full {
-            variables: [false; 32],
-        };
-        for (x, kind) in signature.kinds.iter().enumerate() {
-            if *kind == 0 || x < signature.marks.len() {
-                full.put_at(x, true);
-            }
+        let mut variables = [false; VARIABLES];
+        for ((x, kind), is_full) in signature.kinds.iter().enumerate().zip(variables.iter_mut()) {
+            *is_full = *kind == 0 || x < signature.marks.len();
         }
-        full
+        Full { variables }
     }
 
-    fn put_at(&mut self, x: usize, is_full: bool) {
-        if x < VARIABLES {
-            self.variables[x] = is_full;
+    fn put(&mut self, x: Var, is_full: bool) {
+        if let Some(place) = self.variables.get_mut(usize::from(x)) {
+            *place = is_full;
         }
     }
 
     pub fn has(&self, x: Var) -> bool {
-        let x = x.0 as usize;
-        x < VARIABLES && self.variables[x]
+        self.variables.get(usize::from(x)) == Some(&true)
     }
 
     pub fn add(&mut self, x: Var) {
-        self.put_at(x.0 as usize, true);
+        self.put(x, true);
     }
 
     pub fn remove(&mut self, x: Var) {
-        self.put_at(x.0 as usize, false);
+        self.put(x, false);
     }
 
     // What is full here or there.
     pub fn add_all(&mut self, other: &Full) {
-        for x in 0..32 {
-            if other.has(Var(x)) {
-                self.add(Var(x));
-            }
+        for (here, there) in self.variables.iter_mut().zip(other.variables.iter()) {
+            *here |= *there;
         }
     }
 
     // What is full here and there.
     pub fn keep_only(&mut self, other: &Full) {
-        for x in 0..32 {
-            if !other.has(Var(x)) {
-                self.remove(Var(x));
-            }
+        for (here, there) in self.variables.iter_mut().zip(other.variables.iter()) {
+            *here &= *there;
         }
-    }
-
-    // The first variable that is full here and not there, or there and not here.
-    pub fn difference(&self, other: &Full) -> Option<Var> {
-        for x in 0..32 {
-            if self.has(Var(x)) != other.has(Var(x)) {
-                return Some(Var(x));
-            }
-        }
-        None
     }
 }

@@ -1,15 +1,13 @@
-use crate::boxes::{Boxes, Fault, Value};
-use crate::reader::MAX_NESTING;
+use crate::boxes::{Boxes, Fault, Name, Value};
 use crate::tally::{Event, Tally};
 use crate::tree::{
-    Argument, Call, Expression, Mark, NodeId, Operator, Program, Signature, Statement, Token,
-    Transfer, Var,
+    Argument, Call, Expression, Mark, Node, Operator, Program, Signature, Statement, Transfer, Var,
 };
 use std::alloc::{AllocError, AllocFailed, Global};
 use std::mem;
 
 // How a run ends. The last is no ending of the language: this program has no memory left.
-#[derive(Clone, Copy, PartialEq, Eq)]
+#[derive(Clone, Copy, Debug, PartialEq, Eq)]
 pub enum Stop {
     Done(u32),
     Full,
@@ -47,25 +45,25 @@ pub struct Limits {
 
 // An open procedure: what is still to be done in it, the last first, and where the result of its call goes.
 #[derive(Drop)]
-pub struct Frame {
+pub struct Frame<'a> {
     pub procedure: u32,
     pub variables: Vec<Value>,
-    pub to_do: Vec<NodeId>,
+    pub to_do: Vec<&'a Node>,
     pub into: Var,
 }
 
-impl Frame {
+impl<'a> Frame<'a> {
     // What a variable holds; nothing, if it is not there.
     pub fn get(&self, x: Var) -> Value {
         self.variables
-            .get(x.0 as usize)
+            .get(usize::from(x))
             .copied()
             .unwrap_or(Value::Empty)
     }
 
     // A variable that is not there stays away.
     fn put(&mut self, x: Var, value: Value) {
-        if let Some(place) = self.variables.get_mut(x.0 as usize) {
+        if let Some(place) = self.variables.get_mut(usize::from(x)) {
             *place = value;
         }
     }
@@ -76,8 +74,8 @@ impl Frame {
 pub struct Run<'a> {
     program: &'a Program,
     heap: Global,
-    pub running: Frame,
-    pub callers: Vec<Frame>,
+    pub running: Frame<'a>,
+    pub callers: Vec<Frame<'a>>,
     pub boxes: Boxes,
     pub limits: Limits,
     pub shown: Vec<u32>,
@@ -105,41 +103,35 @@ impl<'a> Run<'a> {
         }
     }
 
-    fn signature(&self) -> Option<&Signature> {
-        self.program.signatures.get(self.running.procedure as usize)
+    fn signature(&self) -> Option<&'a Signature> {
+        let procedure = self
+            .program
+            .procedures
+            .get(self.running.procedure as usize)?;
+        Some(&procedure.signature)
     }
 
     // The kind of a variable of the running procedure; one that is not there counts as a number.
     pub fn kind(&self, x: Var) -> u32 {
-        match self.signature() {
-            Some(signature) => signature.kind(x).unwrap_or(0),
-            None => 0,
-        }
+        self.signature()
+            .and_then(|signature| signature.kind(x))
+            .unwrap_or(0)
     }
 
     fn number(&self, x: Var) -> Result<u32, Fault> {
-        match self.running.get(x) {
-            Value::Number(number) => Ok(number),
-            _ => Err(Fault::NoNumber),
-        }
+        u32::try_from(self.running.get(x))
     }
 
-    // Reckons from the last token to the first, so that operands come before their operator.
-    fn value(&self, e: Expression) -> Result<u32, Stop> {
-        let mut operands = Vec::new(self.heap);
-        for token in self.program.tokens_of(e).iter().rev() {
-            let number = match token {
-                Token::Number(number) => *number,
-                Token::Variable(x) => self.number(*x)?,
-                Token::Operator(operator) => {
-                    let a = operands.pop().unwrap_or(0);
-                    let b = operands.pop().unwrap_or(0);
-                    reckon(*operator, a, b)
-                }
-            };
-            operands.push(number)?;
+    fn value(&self, e: &Expression) -> Result<u32, Fault> {
+        match e {
+            Expression::Number(number) => Ok(*number),
+            Expression::Variable(x) => self.number(*x),
+            Expression::Reckoned(operator, a, b) => {
+                let a = self.value(a)?;
+                let b = self.value(b)?;
+                Ok(reckon(*operator, a, b))
+            }
         }
-        Ok(operands.pop().unwrap_or(0))
     }
 
     // Takes from a variable: copies a number, moves a box.
@@ -147,12 +139,9 @@ impl<'a> Run<'a> {
         if self.kind(x) == 0 {
             return Ok(Value::Number(self.number(x)?));
         }
-        let value = self.running.get(x);
-        let Value::Boxed(_) = value else {
-            return Err(Fault::Empty);
-        };
+        let name = Name::try_from(self.running.get(x))?;
         self.running.put(x, Value::Empty);
-        Ok(value)
+        Ok(Value::Boxed(name))
     }
 
     // Puts into a variable, and gives back the box that it held.
@@ -188,10 +177,8 @@ impl<'a> Run<'a> {
 
     fn look(&mut self, x: Var, y: Var) -> Result<(), Fault> {
         let inner = self.boxes.open(self.running.get(y))?;
-        let Value::Number(_) = inner else {
-            return Err(Fault::NoNumber);
-        };
-        self.put(x, inner)
+        let number = u32::try_from(inner)?;
+        self.put(x, Value::Number(number))
     }
 
     fn fill(&mut self, x: Var, y: Var) -> Result<(), Fault> {
@@ -219,26 +206,20 @@ impl<'a> Run<'a> {
 
     // A turn of a loop or the beginning of a call.
     fn take_turn(&mut self) -> Result<(), Stop> {
-        match self.limits.turns.checked_sub(1) {
-            Some(left) => {
-                self.limits.turns = left;
-                Ok(())
-            }
-            None => Err(Stop::Spent),
-        }
+        self.limits.turns = self.limits.turns.checked_sub(1).ok_or(Stop::Spent)?;
+        Ok(())
     }
 
     // Opens a procedure with these arguments: the running one waits for it.
-    fn open(&mut self, procedure: u32, arguments: &[Value]) -> Result<Frame, Stop> {
-        let Some(signature) = self.program.signatures.get(procedure as usize) else {
-            return Err(Stop::Faulted(Fault::NoProcedure));
-        };
-        let Some(body) = self.program.bodies.get(procedure as usize) else {
-            return Err(Stop::Faulted(Fault::NoProcedure));
-        };
+    fn open(&mut self, procedure: u32, arguments: &[Value]) -> Result<Frame<'a>, Stop> {
+        let opened = self
+            .program
+            .procedures
+            .get(procedure as usize)
+            .ok_or(Fault::NoProcedure)?;
         self.take_turn()?;
         let mut variables = Vec::new(self.heap);
-        for (x, kind) in signature.kinds.iter().enumerate() {
+        for (x, kind) in opened.signature.kinds.iter().enumerate() {
             let blank = if *kind == 0 {
                 Value::Number(0)
             } else {
@@ -247,7 +228,7 @@ impl<'a> Run<'a> {
             variables.push(arguments.get(x).copied().unwrap_or(blank))?;
         }
         let mut to_do = Vec::new(self.heap);
-        to_do.push(*body)?;
+        to_do.push(&opened.body)?;
         Ok(Frame {
             procedure,
             variables,
@@ -280,12 +261,12 @@ impl<'a> Run<'a> {
         }
     }
 
-    fn call(&mut self, call: Call) -> Result<(), Stop> {
+    fn call(&mut self, call: &Call) -> Result<(), Stop> {
         if self.open_calls() >= self.limits.calls as usize {
             return Err(Stop::Deep);
         }
         let mut arguments = Vec::new(self.heap);
-        for argument in self.program.arguments_of(call) {
+        for argument in call.arguments.iter() {
             arguments.push(self.argument(*argument)?)?;
         }
         let called = self.open(call.procedure, arguments.as_slice())?;
@@ -301,12 +282,9 @@ impl<'a> Run<'a> {
 
     // Whether a procedure is among the callers.
     fn is_open(&self, procedure: u32) -> bool {
-        for frame in self.callers.iter() {
-            if frame.procedure == procedure {
-                return true;
-            }
-        }
-        false
+        self.callers
+            .iter()
+            .any(|frame| frame.procedure == procedure)
     }
 
     // How many procedures are open.
@@ -316,18 +294,12 @@ impl<'a> Run<'a> {
 
     // Ends a procedure: gives back its variables but the result and what was lent. Gives the result.
     fn close(&mut self) -> Result<Value, Stop> {
-        let Some(signature) = self.signature() else {
-            return Err(Stop::Faulted(Fault::NoProcedure));
-        };
+        let signature = self.signature().ok_or(Fault::NoProcedure)?;
         let result = signature.result;
-        let many = signature.kinds.len();
         let value = self.take(result)?;
-        for x in 0..many {
-            let x = Var(u32::try_from(x).unwrap_or(u32::MAX));
-            if x != result && !self.is_lent(x) {
-                let kind = self.kind(x);
-                let held = self.running.get(x);
-                self.boxes.give_back(kind, held)?;
+        for (x, kind) in (0u32..).map(Var).zip(signature.kinds.iter()) {
+            if x != result && !signature.is_lent(x) {
+                self.boxes.give_back(*kind, self.running.get(x))?;
                 self.blank(x);
             }
         }
@@ -335,10 +307,8 @@ impl<'a> Run<'a> {
     }
 
     fn is_lent(&self, x: Var) -> bool {
-        match self.signature() {
-            Some(signature) => signature.is_lent(x),
-            None => false,
-        }
+        self.signature()
+            .is_some_and(|signature| signature.is_lent(x))
     }
 
     // A box variable that was given back is empty.
@@ -360,39 +330,35 @@ impl<'a> Run<'a> {
                 self.put(into, result)?;
                 Ok(())
             }
-            None => match result {
-                Value::Number(number) => Err(Stop::Done(number)),
-                _ => Err(Stop::Faulted(Fault::NoNumber)),
-            },
+            None => Err(Stop::Done(u32::try_from(result)?)),
         }
     }
 
     // A turn of a loop, if its test says so. The loop comes again after its body.
-    fn repeat(&mut self, id: NodeId, e: Expression, body: NodeId) -> Result<(), Stop> {
+    fn repeat(&mut self, whole: &'a Node, e: &Expression, body: &'a Node) -> Result<(), Stop> {
         if self.value(e)? != 0 {
             self.take_turn()?;
-            self.running.to_do.push(id)?;
+            self.running.to_do.push(whole)?;
             self.running.to_do.push(body)?;
         }
         Ok(())
     }
 
-    fn execute(&mut self, id: NodeId) -> Result<(), Stop> {
-        let statement = self.program.node(id).statement;
-        self.tally.count(statement);
-        match statement {
+    fn execute(&mut self, node: &'a Node) -> Result<(), Stop> {
+        self.tally.count(&node.statement);
+        match &node.statement {
             Statement::Skip | Statement::Then(_, _) => {}
             Statement::Set(x, e) => {
                 let number = self.value(e)?;
-                self.put(x, Value::Number(number))?;
+                self.put(*x, Value::Number(number))?;
             }
-            Statement::Between(what, x, y) => self.transfer(what, x, y)?,
-            Statement::Drop(x) => self.put(x, Value::Empty)?,
+            Statement::Between(what, x, y) => self.transfer(*what, *x, *y)?,
+            Statement::Drop(x) => self.put(*x, Value::Empty)?,
             Statement::If(e, s, t) => {
                 let part = if self.value(e)? != 0 { s } else { t };
                 self.running.to_do.push(part)?;
             }
-            Statement::While(e, s) => self.repeat(id, e, s)?,
+            Statement::While(e, s) => self.repeat(node, e, s)?,
             Statement::Call(call) => self.call(call)?,
             Statement::Show(e) => {
                 let number = self.value(e)?;
@@ -404,26 +370,22 @@ impl<'a> Run<'a> {
 
     // A pair takes no step: it is entered at once, and so are pairs at its beginning.
     fn enter(&mut self) -> Result<(), Stop> {
-        for _ in 0..MAX_NESTING {
-            let Some(id) = self.running.to_do.pop() else {
-                return Ok(());
-            };
-            let statement = self.program.node(id).statement;
-            let Statement::Then(s, t) = statement else {
-                self.running.to_do.push(id)?;
-                return Ok(());
-            };
-            self.tally.count(statement);
+        let Some(mut node) = self.running.to_do.pop() else {
+            return Ok(());
+        };
+        while let Statement::Then(s, t) = &node.statement {
+            self.tally.count(&node.statement);
             self.running.to_do.push(t)?;
-            self.running.to_do.push(s)?;
+            node = s;
         }
+        self.running.to_do.push(node)?;
         Ok(())
     }
 
     // One step: the next statement, or the end of the running procedure.
     pub fn step(&mut self) -> Result<(), Stop> {
         match self.running.to_do.pop() {
-            Some(id) => self.execute(id)?,
+            Some(node) => self.execute(node)?,
             None => self.end()?,
         }
         self.enter()
@@ -431,8 +393,7 @@ impl<'a> Run<'a> {
 
     // Where a procedure goes on in the rows, unless it is at its end.
     pub fn place(&self, frame: &Frame) -> Option<usize> {
-        let id = frame.to_do.last()?;
-        Some(self.program.node(*id).at)
+        frame.to_do.last().map(|node| node.at)
     }
 }
 

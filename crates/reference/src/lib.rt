@@ -7,3 +7,4 @@ pub mod reader;
 pub mod rules;
 pub mod tally;
 pub mod tree;
+pub mod words;

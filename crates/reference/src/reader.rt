@@ -1,7 +1,8 @@
 use crate::tree::{
-    Argument, Call, Expression, Mark, Node, NodeId, Operator, Program, Signature, Statement, Token,
+    Argument, Call, Expression, Mark, Node, Operator, Procedure, Program, Signature, Statement,
     Transfer, Var,
 };
+use crate::words::{Form, UnknownWord};
 use std::alloc::{AllocError, AllocFailed, Global};
 
 const MAX_WORDS: usize = 16384;
@@ -18,7 +19,7 @@ const MAX_KIND: u32 = 8;
 pub const MAX_NESTING: u32 = 128;
 
 // Why there is no tree.
-#[derive(Clone, Copy, PartialEq, Eq)]
+#[derive(Clone, Copy, Debug, PartialEq, Eq)]
 pub enum Unread {
     NoProgram,
     NoMemory,
@@ -36,20 +37,23 @@ impl<T: Drop> From<AllocFailed<T>> for Unread {
     }
 }
 
-// The rows, where reading has come, and what was read.
+impl From<UnknownWord> for Unread {
+    fn from(_error: UnknownWord) -> Unread {
+        Unread::NoProgram
+    }
+}
+
+// The rows, and where reading has come.
 #[derive(Drop)]
 struct Reader<'a> {
     rows: &'a [u32],
     at: usize,
     heap: Global,
-    program: Program,
 }
 
 impl<'a> Reader<'a> {
     fn word(&mut self) -> Result<u32, Unread> {
-        let Some(word) = self.rows.get(self.at) else {
-            return Err(Unread::NoProgram);
-        };
+        let word = self.rows.get(self.at).ok_or(Unread::NoProgram)?;
         self.at = self.at.saturating_add(1);
         Ok(*word)
     }
@@ -68,44 +72,22 @@ impl<'a> Reader<'a> {
     }
 
     fn mark(&mut self) -> Result<Mark, Unread> {
-        match self.word()? {
-            0 => Ok(Mark::Over),
-            1 => Ok(Mark::Lent),
-            _ => Err(Unread::NoProgram),
-        }
+        Ok(Mark::try_from(self.word()?)?)
     }
 
-    fn token(&mut self) -> Result<Token, Unread> {
-        Ok(match self.word()? {
-            0 => Token::Number(self.word()?),
-            1 => Token::Variable(self.var()?),
-            2 => Token::Operator(Operator::Add),
-            3 => Token::Operator(Operator::Subtract),
-            4 => Token::Operator(Operator::Multiply),
-            5 => Token::Operator(Operator::Less),
-            _ => return Err(Unread::NoProgram),
-        })
-    }
-
-    // Reads the tokens of an expression that may nest so deep.
-    fn operand(&mut self, depth: u32) -> Result<(), Unread> {
-        let Some(inner) = depth.checked_sub(1) else {
-            return Err(Unread::NoProgram);
-        };
-        let token = self.token()?;
-        self.program.tokens.push(token)?;
-        if let Token::Operator(_) = token {
-            self.operand(inner)?;
-            self.operand(inner)?;
-        }
-        Ok(())
-    }
-
+    // An expression that may nest so deep.
     fn expression(&mut self, depth: u32) -> Result<Expression, Unread> {
-        let first = self.program.tokens.len();
-        self.operand(depth)?;
-        let end = self.program.tokens.len();
-        Ok(Expression { first, end })
+        let inner = depth.checked_sub(1).ok_or(Unread::NoProgram)?;
+        match self.word()? {
+            0 => Ok(Expression::Number(self.word()?)),
+            1 => Ok(Expression::Variable(self.var()?)),
+            word => {
+                let operator = Operator::try_from(word)?;
+                let a = self.expression(inner)?;
+                let b = self.expression(inner)?;
+                Ok(Expression::Reckoned(operator, Box::new(self.heap, a)?, Box::new(self.heap, b)?))
+            }
+        }
     }
 
     fn between(&mut self, what: Transfer) -> Result<Statement, Unread> {
@@ -114,73 +96,55 @@ impl<'a> Reader<'a> {
         Ok(Statement::Between(what, x, y))
     }
 
-    fn call(&mut self) -> Result<Statement, Unread> {
+    fn call(&mut self) -> Result<Call, Unread> {
         let into = self.var()?;
         let procedure = self.word()?;
         let many = self.word()?;
-        let first = self.program.arguments.len();
+        let mut arguments = Vec::new(self.heap);
         for _ in 0..many {
             let var = self.var()?;
             let mark = self.mark()?;
-            self.program.arguments.push(Argument { var, mark })?;
+            arguments.push(Argument { var, mark })?;
         }
-        let end = self.program.arguments.len();
-        Ok(Statement::Call(Call {
+        Ok(Call {
             into,
             procedure,
-            first,
-            end,
-        }))
+            arguments,
+        })
     }
 
-    // A statement without statements in it.
-    fn plain(&mut self, head: u32, depth: u32) -> Result<Statement, Unread> {
-        match head {
-            0 => Ok(Statement::Skip),
-            2 => {
-                let x = self.var()?;
-                Ok(Statement::Set(x, self.expression(depth)?))
-            }
-            3 => self.between(Transfer::Box),
-            4 => self.between(Transfer::Unbox),
-            5 => self.between(Transfer::Look),
-            6 => self.between(Transfer::Fill),
-            7 => self.between(Transfer::Move),
-            8 => Ok(Statement::Drop(self.var()?)),
-            11 => self.call(),
-            12 => Ok(Statement::Show(self.expression(depth)?)),
-            _ => Err(Unread::NoProgram),
-        }
+    // A statement in another, which may nest so deep.
+    #[cycle(nesting)]
+    fn inner(&mut self, depth: u32) -> Result<Box<Node>, Unread> {
+        let node = self.node(depth)?;
+        Ok(Box::new(self.heap, node)?)
     }
 
-    // Reads a statement that may nest so deep.
-    fn statement(&mut self, depth: u32) -> Result<NodeId, Unread> {
-        let Some(inner) = depth.checked_sub(1) else {
-            return Err(Unread::NoProgram);
-        };
+    // A statement that may nest so deep.
+    #[cycle(nesting)]
+    fn node(&mut self, depth: u32) -> Result<Node, Unread> {
+        let inner = depth.checked_sub(1).ok_or(Unread::NoProgram)?;
         let at = self.at;
-        let statement = match self.word()? {
-            1 => {
-                let s = self.statement(inner)?;
-                let t = self.statement(inner)?;
-                Statement::Then(s, t)
-            }
-            9 => {
-                let e = self.expression(inner)?;
-                let s = self.statement(inner)?;
-                let t = self.statement(inner)?;
-                Statement::If(e, s, t)
-            }
-            10 => {
-                let e = self.expression(inner)?;
-                let s = self.statement(inner)?;
-                Statement::While(e, s)
-            }
-            head => self.plain(head, inner)?,
+        let statement = match Form::try_from(self.word()?)? {
+            Form::Skip => Statement::Skip,
+            Form::Then => Statement::Then(self.inner(inner)?, self.inner(inner)?),
+            Form::Set => Statement::Set(self.var()?, self.expression(inner)?),
+            Form::Box => self.between(Transfer::Box)?,
+            Form::Unbox => self.between(Transfer::Unbox)?,
+            Form::Look => self.between(Transfer::Look)?,
+            Form::Fill => self.between(Transfer::Fill)?,
+            Form::Move => self.between(Transfer::Move)?,
+            Form::Drop => Statement::Drop(self.var()?),
+            Form::If => Statement::If(
+                self.expression(inner)?,
+                self.inner(inner)?,
+                self.inner(inner)?,
+            ),
+            Form::While => Statement::While(self.expression(inner)?, self.inner(inner)?),
+            Form::Call => Statement::Call(self.call()?),
+            Form::Show => Statement::Show(self.expression(inner)?),
         };
-        let id = NodeId(self.program.nodes.len());
-        self.program.nodes.push(Node { at, statement })?;
-        Ok(id)
+        Ok(Node { at, statement })
     }
 
     fn signature(&mut self) -> Result<Signature, Unread> {
@@ -202,22 +166,10 @@ impl<'a> Reader<'a> {
         })
     }
 
-    fn procedure(&mut self) -> Result<(), Unread> {
+    fn procedure(&mut self) -> Result<Procedure<Node>, Unread> {
         let signature = self.signature()?;
-        self.program.signatures.push(signature)?;
-        let body = self.statement(MAX_NESTING)?;
-        self.program.bodies.push(body)?;
-        Ok(())
-    }
-}
-
-fn empty(heap: Global) -> Program {
-    Program {
-        signatures: Vec::new(heap),
-        bodies: Vec::new(heap),
-        nodes: Vec::new(heap),
-        tokens: Vec::new(heap),
-        arguments: Vec::new(heap),
+        let body = self.node(MAX_NESTING)?;
+        Ok(Procedure { signature, body })
     }
 }
 
@@ -226,25 +178,15 @@ pub fn read_program(heap: Global, rows: &[u32]) -> Result<Program, Unread> {
     if rows.len() > MAX_WORDS {
         return Err(Unread::NoProgram);
     }
-    let mut reader = Reader {
-        rows,
-        at: 0,
-        heap,
-        program: empty(heap),
-    };
+    let mut reader = Reader { rows, at: 0, heap };
+    let mut procedures = Vec::new(heap);
     for _ in 0..MAX_PROCEDURES {
         if reader.at < rows.len() {
-            reader.procedure()?;
+            procedures.push(reader.procedure()?)?;
         }
     }
-    let Reader {
-        rows: _,
-        at,
-        heap: _,
-        program,
-    } = reader;
-    if at < rows.len() {
+    if reader.at < rows.len() {
         return Err(Unread::NoProgram);
     }
-    Ok(program)
+    Ok(Program { procedures })
 }

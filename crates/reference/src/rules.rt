@@ -1,9 +1,11 @@
 use crate::full::Full;
-use crate::reader::MAX_NESTING;
-use crate::tree::{Argument, Mark, NodeId, Program, Signature, Statement, Token, Transfer, Var};
+use crate::tree::{
+    Argument, Call, Expression, Mark, Node, Procedure, Program, Signature, Statement, Transfer, Var,
+};
+use std::fmt;
 
 // What a careless program does that the rules forbid.
-#[derive(Clone, Copy, PartialEq, Eq)]
+#[derive(Clone, Copy, Debug, PartialEq, Eq)]
 pub enum Rule {
     NoVariable,
     SetsBox,
@@ -33,19 +35,85 @@ pub enum Rule {
     NoFirst,
 }
 
-// The rules at a place of a procedure. Full variables come in and go out by value.
-#[derive(Clone, Copy)]
-pub struct Scope<'a> {
-    pub signatures: &'a [Signature],
-    pub signature: &'a Signature,
+impl Rule {
+    // Every rule, in the order of the page on the language.
+    pub const ALL: [Rule; 26] = [
+        Rule::NoVariable,
+        Rule::SetsBox,
+        Rule::PutsIntoLent,
+        Rule::ReckonsWithBox,
+        Rule::TakesFromEmpty,
+        Rule::TakesFromLent,
+        Rule::NamesOneTwice,
+        Rule::MixesKinds,
+        Rule::LooksIntoEmpty,
+        Rule::FillsEmpty,
+        Rule::DropsNumber,
+        Rule::BranchesDiffer,
+        Rule::LoopChanges,
+        Rule::NoProcedure,
+        Rule::ArgumentCount,
+        Rule::ArgumentMark,
+        Rule::ArgumentKind,
+        Rule::ArgumentEmpty,
+        Rule::ArgumentTwice,
+        Rule::ResultKind,
+        Rule::ResultIntoLoan,
+        Rule::ResultEmpty,
+        Rule::ResultIsArgument,
+        Rule::FirstHasArguments,
+        Rule::FirstGivesBox,
+        Rule::NoFirst,
+    ];
 }
 
-impl<'a> Scope<'a> {
+impl fmt::Display for Rule {
+    fn fmt<W: fmt::Write>(&self, f: &mut fmt::Formatter<W>) -> fmt::Result {
+        f.write_str(match self {
+            Rule::NoVariable => "a variable is not there",
+            Rule::SetsBox => "sets a box variable",
+            Rule::PutsIntoLent => "puts into a lent argument",
+            Rule::ReckonsWithBox => "reckons with a box",
+            Rule::TakesFromEmpty => "takes from an empty variable",
+            Rule::TakesFromLent => "takes from a lent argument",
+            Rule::NamesOneTwice => "names one variable twice",
+            Rule::MixesKinds => "mixes kinds",
+            Rule::LooksIntoEmpty => "looks into an empty variable",
+            Rule::FillsEmpty => "fills an empty variable",
+            Rule::DropsNumber => "drops a number",
+            Rule::BranchesDiffer => "branches leave other variables full",
+            Rule::LoopChanges => "a loop changes what is full",
+            Rule::NoProcedure => "a procedure is not there",
+            Rule::ArgumentCount => "too few or too many arguments",
+            Rule::ArgumentMark => "lends what is handed over or so",
+            Rule::ArgumentKind => "an argument of another kind",
+            Rule::ArgumentEmpty => "an empty argument",
+            Rule::ArgumentTwice => "a box twice among arguments",
+            Rule::ResultKind => "a result of another kind",
+            Rule::ResultIntoLoan => "a result into what is lent",
+            Rule::ResultEmpty => "an empty result",
+            Rule::ResultIsArgument => "a result that is an argument",
+            Rule::FirstHasArguments => "the first has arguments",
+            Rule::FirstGivesBox => "the first gives a box",
+            Rule::NoFirst => "no procedures",
+        })
+    }
+}
+
+// The rules at a place of a procedure. Full variables come in and go out by value.
+#[derive_where(Clone, Copy)]
+pub struct Scope<'a, B> {
+    pub procedures: &'a [Procedure<B>],
+    pub procedure: &'a Procedure<B>,
+}
+
+impl<'a, B> Scope<'a, B> {
+    fn signature(&self) -> &Signature {
+        &self.procedure.signature
+    }
+
     fn kind(&self, x: Var) -> Result<u32, Rule> {
-        match self.signature.kind(x) {
-            Some(kind) => Ok(kind),
-            None => Err(Rule::NoVariable),
-        }
+        self.signature().kind(x).ok_or(Rule::NoVariable)
     }
 
     // The kind of a variable that can give.
@@ -54,7 +122,7 @@ impl<'a> Scope<'a> {
         if kind == 0 {
             return Ok(0);
         }
-        if self.signature.is_lent(y) {
+        if self.signature().is_lent(y) {
             return Err(Rule::TakesFromLent);
         }
         if !full.has(y) {
@@ -66,22 +134,23 @@ impl<'a> Scope<'a> {
     // The kind of a variable that can take.
     fn taker(&self, x: Var) -> Result<u32, Rule> {
         let kind = self.kind(x)?;
-        if self.signature.is_lent(x) {
+        if self.signature().is_lent(x) {
             return Err(Rule::PutsIntoLent);
         }
         Ok(kind)
     }
 
     // An expression is over number variables.
-    pub fn reckon(&self, tokens: &[Token]) -> Result<(), Rule> {
-        for token in tokens {
-            if let Token::Variable(x) = token
-                && self.kind(*x)? > 0
-            {
-                return Err(Rule::ReckonsWithBox);
+    pub fn reckon(&self, e: &Expression) -> Result<(), Rule> {
+        match e {
+            Expression::Number(_) => Ok(()),
+            Expression::Variable(x) if self.kind(*x)? > 0 => Err(Rule::ReckonsWithBox),
+            Expression::Variable(_) => Ok(()),
+            Expression::Reckoned(_, a, b) => {
+                self.reckon(a)?;
+                self.reckon(b)
             }
         }
-        Ok(())
     }
 
     pub fn set(&self, x: Var) -> Result<(), Rule> {
@@ -121,16 +190,7 @@ impl<'a> Scope<'a> {
         if !full.has(x) {
             return Err(Rule::FillsEmpty);
         }
-        Ok(self.taken(full, y, from))
-    }
-
-    // What is full once a variable of this kind was taken from.
-    fn taken(&self, full: Full, y: Var, kind: u32) -> Full {
-        let mut after = full;
-        if kind > 0 {
-            after.remove(y);
-        }
-        after
+        Ok(taken(full, y, from))
     }
 
     // A box is made, opened or moved.
@@ -148,7 +208,7 @@ impl<'a> Scope<'a> {
         if !fits {
             return Err(Rule::MixesKinds);
         }
-        let mut after = self.taken(full, y, from);
+        let mut after = taken(full, y, from);
         after.add(x);
         Ok(after)
     }
@@ -162,18 +222,12 @@ impl<'a> Scope<'a> {
     }
 
     // An argument that the called procedure marks so and gives this kind.
-    fn argument(
-        &self,
-        full: Full,
-        a: Argument,
-        mark: Mark,
-        kind: Option<u32>,
-    ) -> Result<Full, Rule> {
+    fn argument(&self, full: Full, a: Argument, mark: Mark, kind: u32) -> Result<Full, Rule> {
         let given = self.kind(a.var)?;
         if a.mark != mark {
             return Err(Rule::ArgumentMark);
         }
-        if kind != Some(given) {
+        if given != kind {
             return Err(Rule::ArgumentKind);
         }
         if !full.has(a.var) {
@@ -183,58 +237,58 @@ impl<'a> Scope<'a> {
             return Ok(full);
         }
         let from = self.giver(&full, a.var)?;
-        Ok(self.taken(full, a.var, from))
+        Ok(taken(full, a.var, from))
     }
 
     // No box stands twice among the arguments.
     fn once_each(&self, arguments: &[Argument]) -> Result<(), Rule> {
         for (i, a) in arguments.iter().enumerate() {
-            for b in arguments.iter().take(i) {
-                if a.var == b.var && self.kind(a.var)? > 0 {
-                    return Err(Rule::ArgumentTwice);
-                }
+            let mut before = arguments.iter().take(i);
+            if before.any(|b| b.var == a.var) && self.kind(a.var)? > 0 {
+                return Err(Rule::ArgumentTwice);
             }
         }
         Ok(())
     }
 
     // The result goes into a variable of its kind that is no box lent in this call.
-    fn result_into(&self, x: Var, arguments: &[Argument], kind: Option<u32>) -> Result<(), Rule> {
-        let into = self.taker(x)?;
+    fn result_into(&self, call: &Call, kind: Option<u32>) -> Result<(), Rule> {
+        let into = self.taker(call.into)?;
         if kind != Some(into) {
             return Err(Rule::ResultKind);
         }
-        for a in arguments {
-            if into > 0 && a.var == x && a.mark == Mark::Lent {
-                return Err(Rule::ResultIntoLoan);
-            }
+        let lent = Argument {
+            var: call.into,
+            mark: Mark::Lent,
+        };
+        if into > 0 && call.arguments.contains(&lent) {
+            return Err(Rule::ResultIntoLoan);
         }
         Ok(())
     }
 
-    pub fn call(&self, full: Full, x: Var, f: u32, arguments: &[Argument]) -> Result<Full, Rule> {
-        let Some(called) = self.signatures.get(f as usize) else {
-            return Err(Rule::NoProcedure);
-        };
-        if arguments.len() != called.marks.len() {
+    pub fn call(&self, full: Full, call: &Call) -> Result<Full, Rule> {
+        let procedure = self.procedures.get(call.procedure as usize);
+        let called = &procedure.ok_or(Rule::NoProcedure)?.signature;
+        if call.arguments.len() != called.marks.len() {
             return Err(Rule::ArgumentCount);
         }
-        self.once_each(arguments)?;
+        self.once_each(call.arguments.as_slice())?;
         let mut after = full;
-        for (i, a) in arguments.iter().enumerate() {
-            let mark = called.marks.get(i).copied().unwrap_or(Mark::Over);
-            after = self.argument(after, *a, mark, called.kinds.get(i).copied())?;
+        let wanted = called.marks.iter().zip(called.kinds.iter());
+        for (a, (mark, kind)) in call.arguments.iter().zip(wanted) {
+            after = self.argument(after, *a, *mark, *kind)?;
         }
-        self.result_into(x, arguments, called.kind(called.result))?;
-        after.add(x);
+        self.result_into(call, called.kind(called.result))?;
+        after.add(call.into);
         Ok(after)
     }
 
     // At its end the result is full, a variable that is there and no argument.
     pub fn end(&self, full: &Full) -> Result<(), Rule> {
-        let result = self.signature.result;
+        let result = self.signature().result;
         self.kind(result)?;
-        if self.signature.is_argument(result) {
+        if self.signature().is_argument(result) {
             return Err(Rule::ResultIsArgument);
         }
         if !full.has(result) {
@@ -243,68 +297,57 @@ impl<'a> Scope<'a> {
         Ok(())
     }
 
-    // What is full after a statement that nests so deep at most.
-    fn statement(
-        &self,
-        program: &Program,
-        id: NodeId,
-        full: Full,
-        depth: u32,
-    ) -> Result<Full, Rule> {
-        let Some(inner) = depth.checked_sub(1) else {
-            return Ok(full);
-        };
-        match program.node(id).statement {
+    // What is full after a statement.
+    fn statement(&self, statement: &Statement, full: Full) -> Result<Full, Rule> {
+        match statement {
+            Statement::Skip => Ok(full),
             Statement::Then(s, t) => {
-                let between = self.statement(program, s, full, inner)?;
-                self.statement(program, t, between, inner)
+                let between = self.statement(&s.statement, full)?;
+                self.statement(&t.statement, between)
             }
+            Statement::Set(x, e) => {
+                self.set(*x)?;
+                self.reckon(e)?;
+                Ok(full)
+            }
+            Statement::Between(what, x, y) => self.transfer(*what, full, *x, *y),
+            Statement::Drop(x) => self.drop_box(full, *x),
             Statement::If(e, s, t) => {
-                self.reckon(program.tokens_of(e))?;
-                let after = self.statement(program, s, full, inner)?;
-                let other = self.statement(program, t, full, inner)?;
+                self.reckon(e)?;
+                let after = self.statement(&s.statement, full)?;
+                let other = self.statement(&t.statement, full)?;
                 same_or(after, other, Rule::BranchesDiffer)
             }
             Statement::While(e, s) => {
-                self.reckon(program.tokens_of(e))?;
-                let after = self.statement(program, s, full, inner)?;
+                self.reckon(e)?;
+                let after = self.statement(&s.statement, full)?;
                 same_or(full, after, Rule::LoopChanges)
             }
-            plain => self.plain(program, plain, full),
-        }
-    }
-
-    // What is full after a statement without statements in it.
-    fn plain(&self, program: &Program, statement: Statement, full: Full) -> Result<Full, Rule> {
-        match statement {
-            Statement::Set(x, e) => {
-                self.set(x)?;
-                self.reckon(program.tokens_of(e))?;
+            Statement::Call(call) => self.call(full, call),
+            Statement::Show(e) => {
+                self.reckon(e)?;
+                Ok(full)
             }
-            Statement::Show(e) => self.reckon(program.tokens_of(e))?,
-            Statement::Between(what, x, y) => return self.transfer(what, full, x, y),
-            Statement::Drop(x) => return self.drop_box(full, x),
-            Statement::Call(call) => {
-                return self.call(full, call.into, call.procedure, program.arguments_of(call));
-            }
-            _ => {}
         }
-        Ok(full)
     }
 }
 
-fn same_or(full: Full, other: Full, rule: Rule) -> Result<Full, Rule> {
-    match full.difference(&other) {
-        None => Ok(full),
-        Some(_) => Err(rule),
+// What is full once a variable of this kind was taken from.
+fn taken(full: Full, y: Var, kind: u32) -> Full {
+    let mut after = full;
+    if kind > 0 {
+        after.remove(y);
     }
+    after
+}
+
+fn same_or(full: Full, other: Full, rule: Rule) -> Result<Full, Rule> {
+    if full == other { Ok(full) } else { Err(rule) }
 }
 
 // Procedure 0 is there, has no arguments, and gives a number.
 fn first_procedure(program: &Program) -> Result<(), Rule> {
-    let Some(first) = program.signatures.first() else {
-        return Err(Rule::NoFirst);
-    };
+    let first = &program.procedures.first().ok_or(Rule::NoFirst)?.signature;
     if !first.marks.is_empty() {
         return Err(Rule::FirstHasArguments);
     }
@@ -318,14 +361,14 @@ fn first_procedure(program: &Program) -> Result<(), Rule> {
 // Whether a program keeps the rules, or the first that it breaks.
 pub fn keeps_rules(program: &Program) -> Result<(), Rule> {
     first_procedure(program)?;
-    let signatures = program.signatures.as_slice();
-    for (signature, body) in signatures.iter().zip(program.bodies.iter()) {
+    let procedures = program.procedures.as_slice();
+    for procedure in procedures {
         let scope = Scope {
-            signatures,
-            signature,
+            procedures,
+            procedure,
         };
-        let full = Full::at_start(signature);
-        let after = scope.statement(program, *body, full, MAX_NESTING)?;
+        let full = Full::at_start(&procedure.signature);
+        let after = scope.statement(&procedure.body.statement, full)?;
         scope.end(&after)?;
     }
     Ok(())

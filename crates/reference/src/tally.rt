@@ -1,7 +1,9 @@
-use crate::tree::{Statement, Transfer};
+use crate::tree::Statement;
+use crate::words::Form;
+use std::fmt;
 
 // What a trial should come to besides statements.
-#[derive(Clone, Copy)]
+#[derive(Clone, Copy, Debug, PartialEq, Eq)]
 pub enum Event {
     BoxHandedOver,
     BoxLent,
@@ -11,35 +13,42 @@ pub enum Event {
     GivenBack,
 }
 
-// How often statements of each kind were executed, boxes of each kind made, and events met.
-#[derive(Clone, Copy)]
-pub struct Tally {
-    pub counts: [u64; 13],
-    pub kinds: [u64; 9],
-    pub events: [u64; 6],
+impl Event {
+    pub const ALL: [Event; 6] = [
+        Event::BoxHandedOver,
+        Event::BoxLent,
+        Event::LentOn,
+        Event::Recursion,
+        Event::BoxResult,
+        Event::GivenBack,
+    ];
 }
 
-fn number(statement: Statement) -> usize {
-    match statement {
-        Statement::Skip => 0,
-        Statement::Then(_, _) => 1,
-        Statement::Set(_, _) => 2,
-        Statement::Between(Transfer::Box, _, _) => 3,
-        Statement::Between(Transfer::Unbox, _, _) => 4,
-        Statement::Between(Transfer::Look, _, _) => 5,
-        Statement::Between(Transfer::Fill, _, _) => 6,
-        Statement::Between(Transfer::Move, _, _) => 7,
-        Statement::Drop(_) => 8,
-        Statement::If(_, _, _) => 9,
-        Statement::While(_, _) => 10,
-        Statement::Call(_) => 11,
-        Statement::Show(_) => 12,
+impl fmt::Display for Event {
+    fn fmt<W: fmt::Write>(&self, f: &mut fmt::Formatter<W>) -> fmt::Result {
+        f.write_str(match self {
+            Event::BoxHandedOver => "boxes handed over",
+            Event::BoxLent => "boxes lent",
+            Event::LentOn => "loans lent on",
+            Event::Recursion => "calls of an open procedure",
+            Event::BoxResult => "results that are boxes",
+            Event::GivenBack => "boxes given back where one is put",
+        })
     }
 }
 
+// How often statements of each form were executed, boxes of each kind made, and events met, each in the order of its
+// enum or of kinds. Arrays and no maps, since counting may not run out of memory.
+#[derive(Clone, Copy)]
+pub struct Tally {
+    pub forms: [u64; Form::ALL.len()],
+    pub kinds: [u64; 9],
+    pub events: [u64; Event::ALL.len()],
+}
+
 fn bump(counts: &mut [u64], at: usize) {
-    if at < counts.len() {
-        counts[at] = counts[at].saturating_add(1);
+    if let Some(count) = counts.get_mut(at) {
+        *count = count.saturating_add(1);
     }
 }
 
@@ -52,14 +61,14 @@ fn add_each(counts: &mut [u64], others: &[u64]) {
 impl Tally {
     pub fn new() -> Tally {
         Tally {
-            counts: [0; 13],
+            forms: [0; Form::ALL.len()],
             kinds: [0; 9],
-            events: [0; 6],
+            events: [0; Event::ALL.len()],
         }
     }
 
-    pub fn count(&mut self, statement: Statement) {
-        bump(&mut self.counts, number(statement));
+    pub fn count(&mut self, statement: &Statement) {
+        bump(&mut self.forms, Form::from(statement) as usize);
     }
 
     pub fn count_box(&mut self, kind: u32) {
@@ -71,7 +80,7 @@ impl Tally {
     }
 
     pub fn add(&mut self, other: &Tally) {
-        add_each(&mut self.counts, &other.counts);
+        add_each(&mut self.forms, &other.forms);
         add_each(&mut self.kinds, &other.kinds);
         add_each(&mut self.events, &other.events);
     }

@@ -1,22 +1,28 @@
 // A variable, by its place among the variables of its procedure.
-#[derive(Clone, Copy, PartialEq, Eq)]
+#[derive(Clone, Copy, Debug, PartialEq, Eq, PartialOrd, Ord)]
 pub struct Var(pub u32);
 
+impl From<Var> for usize {
+    fn from(x: Var) -> usize {
+        x.0 as usize
+    }
+}
+
 // How an argument is passed.
-#[derive(Clone, Copy, PartialEq, Eq)]
+#[derive(Clone, Copy, Debug, PartialEq, Eq)]
 pub enum Mark {
     Over,
     Lent,
 }
 
 // An argument of a call: a variable of the caller.
-#[derive(Clone, Copy)]
+#[derive(Clone, Copy, Debug, PartialEq, Eq)]
 pub struct Argument {
     pub var: Var,
     pub mark: Mark,
 }
 
-#[derive(Clone, Copy)]
+#[derive(Clone, Copy, Debug, PartialEq, Eq)]
 pub enum Operator {
     Add,
     Subtract,
@@ -24,22 +30,15 @@ pub enum Operator {
     Less,
 }
 
-#[derive(Clone, Copy)]
-pub enum Token {
+#[derive(Drop)]
+pub enum Expression {
     Number(u32),
     Variable(Var),
-    Operator(Operator),
-}
-
-// An expression: these of the program's tokens, in prefix order.
-#[derive(Clone, Copy)]
-pub struct Expression {
-    pub first: usize,
-    pub end: usize,
+    Reckoned(Operator, Box<Expression>, Box<Expression>),
 }
 
 // What goes from the second variable of a statement to the first.
-#[derive(Clone, Copy, PartialEq, Eq)]
+#[derive(Clone, Copy, Debug, PartialEq, Eq)]
 pub enum Transfer {
     Box,
     Unbox,
@@ -48,34 +47,30 @@ pub enum Transfer {
     Move,
 }
 
-// A statement of the program, by its place among the nodes.
-#[derive(Clone, Copy)]
-pub struct NodeId(pub usize);
-
-// A call: its arguments are these of the program's.
-#[derive(Clone, Copy)]
+#[derive(Drop)]
 pub struct Call {
     pub into: Var,
     pub procedure: u32,
-    pub first: usize,
-    pub end: usize,
+    pub arguments: Vec<Argument>,
 }
 
-#[derive(Clone, Copy)]
+#[cycle(tree)]
+#[derive(Drop)]
 pub enum Statement {
     Skip,
-    Then(NodeId, NodeId),
+    Then(Box<Node>, Box<Node>),
     Set(Var, Expression),
     Between(Transfer, Var, Var),
     Drop(Var),
-    If(Expression, NodeId, NodeId),
-    While(Expression, NodeId),
+    If(Expression, Box<Node>, Box<Node>),
+    While(Expression, Box<Node>),
     Call(Call),
     Show(Expression),
 }
 
 // A statement and where it stands in the rows.
-#[derive(Clone, Copy)]
+#[cycle(tree)]
+#[derive(Drop)]
 pub struct Node {
     pub at: usize,
     pub statement: Statement,
@@ -92,49 +87,27 @@ pub struct Signature {
 impl Signature {
     // The kind of a variable, if it is there.
     pub fn kind(&self, x: Var) -> Option<u32> {
-        self.kinds.get(x.0 as usize).copied()
+        self.kinds.get(usize::from(x)).copied()
     }
 
     pub fn is_argument(&self, x: Var) -> bool {
-        (x.0 as usize) < self.marks.len()
+        usize::from(x) < self.marks.len()
     }
 
     pub fn is_lent(&self, x: Var) -> bool {
-        match self.marks.get(x.0 as usize) {
-            Some(mark) => *mark == Mark::Lent,
-            None => false,
-        }
+        self.marks.get(usize::from(x)) == Some(&Mark::Lent)
     }
 }
 
-// A program as a tree. Bodies stand beside the signatures, one for each.
+// A procedure, with its body or with what stands for that until it is written.
+#[derive(Drop)]
+pub struct Procedure<B> {
+    pub signature: Signature,
+    pub body: B,
+}
+
+// A program as a tree.
 #[derive(Drop)]
 pub struct Program {
-    pub signatures: Vec<Signature>,
-    pub bodies: Vec<NodeId>,
-    pub nodes: Vec<Node>,
-    pub tokens: Vec<Token>,
-    pub arguments: Vec<Argument>,
-}
-
-impl Program {
-    // A node that is not there is taken for a skip.
-    pub fn node(&self, id: NodeId) -> Node {
-        let none = Node {
-            at: usize::MAX,
-            statement: Statement::Skip,
-        };
-        self.nodes.get(id.0).copied().unwrap_or(none)
-    }
-
-    pub fn tokens_of(&self, e: Expression) -> &[Token] {
-        self.tokens.as_slice().get(e.first..e.end).unwrap_or(&[])
-    }
-
-    pub fn arguments_of(&self, call: Call) -> &[Argument] {
-        self.arguments
-            .as_slice()
-            .get(call.first..call.end)
-            .unwrap_or(&[])
-    }
+    pub procedures: Vec<Procedure<Node>>,
 }

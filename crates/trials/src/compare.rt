@@ -1,9 +1,9 @@
-use crate::ending::Ending;
-use crate::memory::{frame_word, free_cells, shown_number};
+use crate::memory::{content, frame_word, free_cells};
 use crate::owners::Owners;
-use interpreter::{Machine, Observer};
-use reference::boxes::Value;
-use reference::interpreter::{Frame, Limits, Run, Stop};
+use crate::trial::Allowed;
+use interpreter::{Machine, Observer, Ran};
+use reference::boxes::{Fault, Name, Value};
+use reference::interpreter::{Frame, Run, Stop};
 use reference::tree::Program;
 use std::alloc::{AllocError, Global};
 
@@ -25,151 +25,139 @@ pub enum Difference {
     Ending,
 }
 
+// A variable of the machine leads to a box that is not there.
+impl From<Fault> for Difference {
+    fn from(_fault: Fault) -> Difference {
+        Difference::Variable
+    }
+}
+
+fn ensure(same: bool, difference: Difference) -> Result<(), Difference> {
+    if same { Ok(()) } else { Err(difference) }
+}
+
+// The machine and the interpreter after the same step, and what the machine's cells were found to be.
+#[derive(Drop)]
+struct Step<'s, 'm, 'r> {
+    machine: &'s Machine<'m>,
+    program: &'r Program,
+    run: &'s Run<'r>,
+    owners: &'s mut Owners,
+    allowed: Allowed,
+}
+
+impl<'s, 'm, 'r> Step<'s, 'm, 'r> {
+    // Whether the machine goes on where a procedure does, or is at its end.
+    fn is_at(&self, at: usize, frame: &Frame) -> bool {
+        match self.run.place(frame) {
+            Some(place) => at == place,
+            None => at >= self.machine.rows.len(),
+        }
+    }
+
+    // A word of the machine and a value of a kind are the same, down to the number.
+    fn value(&mut self, kind: u32, word: u32, value: Value) -> Result<(), Difference> {
+        let mut word = word;
+        let mut value = value;
+        for _ in 0..kind {
+            if value == Value::Empty {
+                return ensure(word == 0, Difference::Variable);
+            }
+            let cell = word.checked_sub(1).ok_or(Difference::Variable)?;
+            let noted = self.owners.note(cell, Name::try_from(value)?);
+            ensure(noted, Difference::Variable)?;
+            word = content(self.machine, cell).ok_or(Difference::Variable)?;
+            value = self.run.boxes.open(value)?;
+        }
+        ensure(value == Value::Number(word), Difference::Variable)
+    }
+
+    // The variables of an open procedure, whose words begin here.
+    fn variables(&mut self, frame: &Frame, base: usize) -> Result<(), Difference> {
+        let procedure = self.program.procedures.get(frame.procedure as usize);
+        let kinds = &procedure.ok_or(Difference::Variable)?.signature.kinds;
+        for (x, kind) in kinds.iter().enumerate() {
+            let word = frame_word(self.machine, base.saturating_add(x));
+            let value = frame.variables.get(x).copied().unwrap_or(Value::Empty);
+            self.value(*kind, word.ok_or(Difference::Variable)?, value)?;
+        }
+        Ok(())
+    }
+
+    // Where a caller goes on, its number, and where the result goes.
+    fn control(&self, frame: &Frame, base: usize) -> Result<(), Difference> {
+        let first = base.saturating_add(VARIABLES);
+        let at = frame_word(self.machine, first).ok_or(Difference::Caller)?;
+        let procedure = frame_word(self.machine, first.saturating_add(1));
+        let into = frame_word(self.machine, first.saturating_add(2));
+        let same = self.is_at(at as usize, frame)
+            && procedure == Some(frame.procedure)
+            && into == Some(frame.into.0);
+        ensure(same, Difference::Caller)
+    }
+
+    fn callers(&mut self) -> Result<(), Difference> {
+        let run = self.run;
+        let mut base = FRAME;
+        for frame in run.callers.iter() {
+            let same = self.variables(frame, base);
+            same.map_err(|_| Difference::Caller)?;
+            self.control(frame, base)?;
+            base = base.saturating_add(FRAME);
+        }
+        ensure(base == self.machine.base, Difference::Caller)
+    }
+
+    // What variables hold. Every box is found from one, and every cell that is not free is a box.
+    fn held(&mut self) -> Result<(), Difference> {
+        let run = self.run;
+        self.owners.clear();
+        self.variables(&run.running, self.machine.base)?;
+        self.callers()?;
+        let used = run.boxes.count();
+        let free = (self.machine.cells.free.cells as usize).checked_sub(used);
+        let same = self.owners.count() == used && free_cells(self.machine) == free;
+        ensure(same, Difference::Cells)
+    }
+
+    // Numbers shown: as many as there is room for, and whether there were more.
+    fn shown(&self) -> Result<(), Difference> {
+        let shown = self.run.shown.as_slice();
+        let machine = self.machine;
+        let same_last = match machine.count.checked_sub(1) {
+            Some(last) => machine.shown.get(last) == shown.get(last),
+            None => true,
+        };
+        let same = machine.count == shown.len().min(self.allowed.room)
+            && machine.over == (shown.len() > self.allowed.room)
+            && same_last;
+        ensure(same, Difference::Shown)
+    }
+
+    // Where both are, what was shown, and the turns left.
+    fn place(&self) -> Result<(), Difference> {
+        let machine = self.machine;
+        let frame = &self.run.running;
+        let open = u32::try_from(self.run.open_calls()).unwrap_or(u32::MAX);
+        let depth = self.allowed.limits.calls.saturating_sub(open);
+        let same_calls = machine.depth == depth && machine.procedure == frame.procedure;
+        ensure(same_calls, Difference::Calls)?;
+        ensure(self.is_at(machine.pos, frame), Difference::Place)?;
+        self.shown()?;
+        ensure(machine.turns == self.run.limits.turns, Difference::Turns)
+    }
+}
+
 // The interpreter, beside a machine that runs the same program. It takes a step for each of the machine's.
 #[derive(Drop)]
 pub struct Watch<'a> {
-    pub program: &'a Program,
+    program: &'a Program,
     pub run: Run<'a>,
-    pub owners: Owners,
-    pub calls: u32,
-    pub room: usize,
-    pub stop: Option<Stop>,
+    owners: Owners,
+    allowed: Allowed,
+    stop: Option<Stop>,
     pub steps: u64,
     pub difference: Option<Difference>,
-}
-
-// Whether the machine goes on at a place, or is at the end of a procedure.
-fn same_place(machine: &Machine, at: usize, place: Option<usize>) -> bool {
-    match place {
-        Some(place) => at == place,
-        None => at >= machine.rows.len(),
-    }
-}
-
-// The variables of an open procedure.
-fn same_variables(
-    program: &Program,
-    run: &Run,
-    owners: &mut Owners,
-    machine: &Machine,
-    frame: &Frame,
-    base: usize,
-) -> bool {
-    let Some(signature) = program.signatures.get(frame.procedure as usize) else {
-        return false;
-    };
-    for (x, kind) in signature.kinds.iter().enumerate() {
-        let Some(word) = frame_word(machine, base.saturating_add(x)) else {
-            return false;
-        };
-        let value = frame.variables.get(x).copied().unwrap_or(Value::Empty);
-        if !owners.same_value(machine, &run.boxes, *kind, word, value) {
-            return false;
-        }
-    }
-    true
-}
-
-// Where a caller goes on, its number, and where the result goes.
-fn same_control(run: &Run, machine: &Machine, frame: &Frame, base: usize) -> bool {
-    let first = base.saturating_add(VARIABLES);
-    let Some(at) = frame_word(machine, first) else {
-        return false;
-    };
-    same_place(machine, at as usize, run.place(frame))
-        && frame_word(machine, first.saturating_add(1)) == Some(frame.procedure)
-        && frame_word(machine, first.saturating_add(2)) == Some(frame.into.0)
-}
-
-fn same_callers(program: &Program, run: &Run, owners: &mut Owners, machine: &Machine) -> bool {
-    let mut base = FRAME;
-    for frame in run.callers.iter() {
-        if !same_variables(program, run, owners, machine, frame, base)
-            || !same_control(run, machine, frame, base)
-        {
-            return false;
-        }
-        base = base.saturating_add(FRAME);
-    }
-    base == machine.base
-}
-
-// What variables hold. Every box is found from one, and every cell that is not free is a box.
-fn compare_held(
-    program: &Program,
-    run: &Run,
-    owners: &mut Owners,
-    machine: &Machine,
-) -> Option<Difference> {
-    owners.clear();
-    if !same_variables(program, run, owners, machine, &run.running, machine.base) {
-        return Some(Difference::Variable);
-    }
-    if !same_callers(program, run, owners, machine) {
-        return Some(Difference::Caller);
-    }
-    let used = run.boxes.count();
-    if owners.count() != used || free_cells(machine) != (machine.cells.free.cells as usize).checked_sub(used) {
-        return Some(Difference::Cells);
-    }
-    None
-}
-
-// Numbers shown: as many as there is room for, and whether there were more.
-fn same_shown(run: &Run, room: usize, machine: &Machine) -> bool {
-    let count = run.shown.len();
-    let same_last = match machine.count.checked_sub(1) {
-        Some(last) => shown_number(machine, last) == run.shown.get(last).copied(),
-        None => true,
-    };
-    machine.count == count.min(room) && machine.over == (count > room) && same_last
-}
-
-// Where both are, what was shown, and the turns left.
-fn compare_control(run: &Run, calls: u32, room: usize, machine: &Machine) -> Option<Difference> {
-    let frame = &run.running;
-    let open = u32::try_from(run.open_calls()).unwrap_or(u32::MAX);
-    if machine.depth != calls.saturating_sub(open) || machine.procedure != frame.procedure {
-        return Some(Difference::Calls);
-    }
-    if !same_place(machine, machine.pos, run.place(frame)) {
-        return Some(Difference::Place);
-    }
-    if !same_shown(run, room, machine) {
-        return Some(Difference::Shown);
-    }
-    if machine.turns != run.limits.turns {
-        return Some(Difference::Turns);
-    }
-    None
-}
-
-// How the machine should say that the interpreter's run ended.
-fn expected(run: &Run, room: usize, stop: Stop) -> Option<Ending> {
-    let shown = run.shown.len();
-    let turns = run.limits.turns;
-    match stop {
-        Stop::Done(_) if shown > room => Some(Ending::OutFull),
-        Stop::Done(result) => Some(Ending::Done {
-            result,
-            shown,
-            turns,
-        }),
-        Stop::Full => Some(Ending::Full),
-        Stop::Spent => Some(Ending::Spent),
-        Stop::Deep => Some(Ending::Deep),
-        Stop::Faulted(_) | Stop::NoMemory => None,
-    }
-}
-
-// Whether the numbers shown are those of the interpreter, as far as there is room.
-fn same_numbers(run: &Run, shown: &[u32]) -> bool {
-    for (word, number) in shown.iter().zip(run.shown.iter()) {
-        if *word != *number {
-            return false;
-        }
-    }
-    true
 }
 
 impl<'a> Watch<'a> {
@@ -177,53 +165,67 @@ impl<'a> Watch<'a> {
     pub fn start(
         heap: Global,
         program: &'a Program,
-        limits: Limits,
-        room: usize,
+        allowed: Allowed,
     ) -> Result<Watch<'a>, AllocError> {
-        let mut run = Run::new(program, heap, limits);
-        let stop = match run.start() {
-            Ok(()) => None,
-            Err(stop) => Some(stop),
-        };
+        let mut run = Run::new(program, heap, allowed.limits);
+        let stop = run.start().err();
         Ok(Watch {
             program,
             run,
-            owners: Owners::new(heap, limits.cells)?,
-            calls: limits.calls,
-            room,
+            owners: Owners::new(heap, allowed.limits.cells)?,
+            allowed,
             stop,
             steps: 0,
             difference: None,
         })
     }
 
-    // What differs after a step of both.
-    fn compare(&mut self, machine: &Machine) -> Option<Difference> {
-        match compare_control(&self.run, self.calls, self.room, machine) {
-            None => compare_held(self.program, &self.run, &mut self.owners, machine),
-            difference => difference,
+    // Takes a step beside the machine's. Neither stops.
+    fn follow(&mut self, machine: &Machine) -> Result<(), Difference> {
+        ensure(self.stop.is_none(), Difference::Ending)?;
+        self.stop = self.run.step().err();
+        ensure(self.stop.is_none(), Difference::Ending)?;
+        let mut step = Step {
+            machine,
+            program: self.program,
+            run: &self.run,
+            owners: &mut self.owners,
+            allowed: self.allowed,
+        };
+        step.place()?;
+        step.held()
+    }
+
+    // How the machine should say that the interpreter's run ended.
+    fn expected(&self, stop: Stop) -> Option<Ran> {
+        let shown = self.run.shown.len();
+        match stop {
+            Stop::Done(_) if shown > self.allowed.room => Some(Ran::OutFull),
+            Stop::Done(result) => Some(Ran::Done(result, shown, self.run.limits.turns)),
+            Stop::Full => Some(Ran::Full),
+            Stop::Spent => Some(Ran::Spent),
+            Stop::Deep => Some(Ran::Deep),
+            Stop::Faulted(_) | Stop::NoMemory => None,
         }
     }
 
     // The machine stopped: so does the interpreter at its next step, for the same reason.
-    pub fn conclude(&mut self, ending: Ending, shown: &[u32]) {
-        if self.difference.is_some() {
-            return;
-        }
+    fn end(&mut self, ending: Ran, shown: &[u32]) -> Result<(), Difference> {
         if self.stop.is_none() {
-            self.stop = match self.run.step() {
-                Ok(()) => None,
-                Err(stop) => Some(stop),
-            };
+            self.stop = self.run.step().err();
         }
-        let same = match self.stop {
-            Some(stop) => expected(&self.run, self.room, stop) == Some(ending),
-            None => false,
-        };
-        if !same {
-            self.difference = Some(Difference::Ending);
-        } else if !same_numbers(&self.run, shown) {
-            self.difference = Some(Difference::Shown);
+        let stop = self.stop.ok_or(Difference::Ending)?;
+        ensure(self.expected(stop) == Some(ending), Difference::Ending)?;
+        let mut numbers = shown.iter().zip(self.run.shown.iter());
+        ensure(
+            numbers.all(|(word, number)| word == number),
+            Difference::Shown,
+        )
+    }
+
+    pub fn conclude(&mut self, ending: Ran, shown: &[u32]) {
+        if self.difference.is_none() {
+            self.difference = self.end(ending, shown).err();
         }
     }
 }
@@ -231,19 +233,8 @@ impl<'a> Watch<'a> {
 impl<'a> Observer for Watch<'a> {
     fn see(&mut self, machine: &Machine) {
         self.steps = self.steps.saturating_add(1);
-        if self.difference.is_some() {
-            return;
-        }
-        if self.stop.is_some() {
-            self.difference = Some(Difference::Ending);
-            return;
-        }
-        match self.run.step() {
-            Ok(()) => self.difference = self.compare(machine),
-            Err(stop) => {
-                self.stop = Some(stop);
-                self.difference = Some(Difference::Ending);
-            }
+        if self.difference.is_none() {
+            self.difference = self.follow(machine).err();
         }
     }
 }

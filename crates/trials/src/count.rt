@@ -1,18 +1,19 @@
-use crate::ending::Ending;
-use crate::names::RULES;
+use crate::endings::Endings;
 use crate::trial::Trial;
+use reference::boxes::Fault;
 use reference::interpreter::Stop;
 use reference::rules::Rule;
 use reference::tally::Tally;
 
 // How often a rule was broken, and what came of it.
-#[derive(Clone, Copy)]
+#[derive(Clone, Copy, Debug)]
 pub struct Broken {
     pub programs: u32,
     pub faults: u32,
 }
 
-// What the trials came to.
+// What the trials came to. Rules and faults are counted each in the order of its enum, in arrays and no maps, since
+// counting may not run out of memory.
 #[derive(Clone, Copy)]
 pub struct Counts {
     pub kept: u32,
@@ -20,10 +21,14 @@ pub struct Counts {
     pub runs: u32,
     pub steps: u64,
     pub tally: Tally,
-    pub endings: [u32; 8],
-    pub broken: [Broken; 26],
-    pub faults: [u32; 4],
+    pub endings: Endings,
+    pub broken: [Broken; Rule::ALL.len()],
+    pub faults: [u32; Fault::ALL.len()],
     pub differences: u32,
+}
+
+fn bump(count: &mut u32) {
+    *count = count.saturating_add(1);
 }
 
 impl Counts {
@@ -34,65 +39,44 @@ impl Counts {
             runs: 0,
             steps: 0,
             tally: Tally::new(),
-            endings: [0; 8],
+            endings: Endings::new(),
             broken: [Broken {
                 programs: 0,
                 faults: 0,
-            }; 26],
-            faults: [0; 4],
+            }; Rule::ALL.len()],
+            faults: [0; Fault::ALL.len()],
             differences: 0,
         }
     }
 
-    pub fn differ(&mut self) {
-        self.differences = self.differences.saturating_add(1);
+    pub fn keep(&mut self) {
+        bump(&mut self.kept);
     }
 
-    pub fn end(&mut self, ended: Ending) {
-        let ending = ended.number();
-        if ending < self.endings.len() {
-            self.endings[ending] = self.endings[ending].saturating_add(1);
-        }
+    pub fn differ(&mut self) {
+        bump(&mut self.differences);
     }
 
     pub fn add(&mut self, trial: &Trial) {
-        self.runs = self.runs.saturating_add(1);
+        bump(&mut self.runs);
         self.steps = self.steps.saturating_add(trial.steps);
         self.tally.add(&trial.tally);
-        self.end(trial.ending);
+        self.endings.count(trial.ending);
     }
 
-    // Counts a fault. Says whether there is one.
-    fn add_fault(&mut self, stop: Stop) -> bool {
-        let Stop::Faulted(fault) = stop else {
-            return false;
-        };
-        let kind = fault as usize;
-        if kind < self.faults.len() {
-            self.faults[kind] = self.faults[kind].saturating_add(1);
-        }
-        true
-    }
-
+    // A program that breaks a rule, and how its run stopped.
     pub fn add_careless(&mut self, rule: Rule, stop: Stop) {
-        self.careless = self.careless.saturating_add(1);
-        let faults = self.add_fault(stop);
-        for (i, (named, _)) in RULES.iter().enumerate() {
-            if *named == rule && i < self.broken.len() {
-                let Broken {
-                    programs,
-                    faults: before,
-                } = self.broken[i];
-                let more = if faults {
-                    before.saturating_add(1)
-                } else {
-                    before
-                };
-                self.broken[i] = Broken {
-                    programs: programs.saturating_add(1),
-                    faults: more,
-                };
+        bump(&mut self.careless);
+        if let Some(broken) = self.broken.get_mut(rule as usize) {
+            bump(&mut broken.programs);
+            if let Stop::Faulted(_) = stop {
+                bump(&mut broken.faults);
             }
+        }
+        if let Stop::Faulted(fault) = stop
+            && let Some(count) = self.faults.get_mut(fault as usize)
+        {
+            bump(count);
         }
     }
 }

@@ -2,22 +2,19 @@
 
 mod compare;
 mod count;
-mod ending;
+mod endings;
 mod memory;
-mod names;
 mod owners;
 mod report;
 mod trial;
 
 use anyhow::anyhow;
 use count::Counts;
-use ending::Ending;
 use generator::damage::damaged;
 use generator::draft::{Draft, generate};
 use generator::limits::{AT_LIMITS, rows_at_limit};
 use generator::rng::Rng;
-use interpreter::go;
-use names::RULES;
+use interpreter::Ran;
 use owned::{Judged, judge};
 use reference::interpreter::Limits;
 use reference::reader::{Unread, read_program};
@@ -25,7 +22,7 @@ use reference::rules::{Rule, keeps_rules};
 use reference::tree::Program;
 use report::{print_answers, print_programs};
 use std::alloc::{AllocError, Global};
-use trial::{drawn_limits, drawn_room, judge_floor, run_alone, run_both, run_floor};
+use trial::{Allowed, drawn_limits, drawn_room, judge_floor, run_alone};
 
 const PROGRAMS: u32 = 500;
 
@@ -51,6 +48,17 @@ enum Verdict {
     NoProgram,
 }
 
+// What `judge` should say.
+impl From<&Verdict> for Judged {
+    fn from(verdict: &Verdict) -> Judged {
+        match verdict {
+            Verdict::Keeps(_) => Judged::Keeps,
+            Verdict::Breaks(_, _) => Judged::Careless,
+            Verdict::NoProgram => Judged::NoProgram,
+        }
+    }
+}
+
 fn own_verdict(heap: Global, rows: &[u32]) -> anyhow::Result<Verdict> {
     let program = match read_program(heap, rows) {
         Ok(program) => program,
@@ -69,81 +77,128 @@ fn judged(heap: Global, rows: &[u32], words: usize) -> Result<Judged, AllocError
     Ok(judge(rows, work.as_mut_slice()))
 }
 
-fn same_verdict(own: &Verdict, says: Judged) -> bool {
-    match own {
-        Verdict::Keeps(_) => says == Judged::Keeps,
-        Verdict::Breaks(_, _) => says == Judged::Careless,
-        Verdict::NoProgram => says == Judged::NoProgram,
-    }
-}
-
 // The rule that a program is to break: every second program breaks one, each in its turn.
 fn wanted(seed: u32) -> Option<Rule> {
     if seed % 2 == 0 {
         return None;
     }
-    let (rule, _) = RULES[seed as usize / 2 % RULES.len()];
-    Some(rule)
+    Some(Rule::ALL[seed as usize / 2 % Rule::ALL.len()])
 }
 
-// Runs a program that keeps the rules with all numbers of cells.
-fn try_kept(
-    rt: &HostRuntime,
-    seed: u32,
-    rows: &[u32],
-    program: &Program,
-    counts: &mut Counts,
-) -> anyhow::Result<()> {
-    let mut rng = Rng::new(seed.wrapping_add(PROGRAMS));
-    for cells in 0..=CELLS {
-        let limits = drawn_limits(&mut rng, cells);
-        let room = drawn_room(&mut rng);
-        let trial = run_both(rt.alloc(), rows, program, limits, room)?;
-        counts.add(&trial);
-        if let Some(difference) = trial.difference {
-            counts.differ();
-            let step = trial.steps;
-            println!(rt; "seed {seed}, {cells} cells: {difference:?} differs at step {step}")?;
-        }
-    }
-    Ok(())
+// Trials of one sort, and what they came to.
+#[derive(Drop)]
+struct Trials<'a> {
+    rt: &'a HostRuntime,
+    counts: Counts,
 }
 
-// A program made for a seed, judged by both and run.
-fn try_program(
-    rt: &HostRuntime,
-    seed: u32,
-    draft: &Draft,
-    counts: &mut Counts,
-) -> anyhow::Result<()> {
-    let heap = rt.alloc();
-    let rows = draft.rows.as_slice();
-    let own = own_verdict(heap, rows)?;
-    if !same_verdict(&own, judged(heap, rows, judge_floor(rows.len()))?) {
-        counts.differ();
-        println!(rt; "seed {seed}: judged otherwise")?;
+impl<'a> Trials<'a> {
+    fn new(rt: &'a HostRuntime) -> Trials<'a> {
+        Trials {
+            rt,
+            counts: Counts::new(),
+        }
     }
-    let found = match &own {
-        Verdict::Keeps(program) => {
-            counts.kept = counts.kept.saturating_add(1);
-            try_kept(rt, seed, rows, program, counts)?;
-            None
+
+    // Runs a program that keeps the rules with all numbers of cells.
+    fn try_kept(&mut self, seed: u32, rows: &[u32], program: &Program) -> anyhow::Result<()> {
+        let rt = self.rt;
+        let mut rng = Rng::new(seed.wrapping_add(PROGRAMS));
+        self.counts.keep();
+        for cells in 0..=CELLS {
+            let allowed = Allowed {
+                limits: drawn_limits(&mut rng, cells),
+                room: drawn_room(&mut rng),
+            };
+            let trial = allowed.run_both(rt.alloc(), rows, program)?;
+            self.counts.add(&trial);
+            if let Some(difference) = trial.difference {
+                self.counts.differ();
+                let step = trial.steps;
+                println!(rt; "seed {seed}, {cells} cells: {difference:?} differs at step {step}")?;
+            }
         }
-        Verdict::Breaks(program, rule) => {
-            let stop = run_alone(heap, program, CARELESS);
-            counts.add_careless(*rule, stop);
-            Some(*rule)
-        }
-        Verdict::NoProgram => {
-            println!(rt; "seed {seed}: no program")?;
-            Some(Rule::NoFirst)
-        }
-    };
-    if found != draft.broken {
-        counts.differ();
-        println!(rt; "seed {seed}: another rule is broken")?;
+        Ok(())
     }
-    Ok(())
+
+    // Runs a program made for a seed. Gives the rule that it breaks, if it does.
+    fn try_verdict(
+        &mut self,
+        seed: u32,
+        rows: &[u32],
+        verdict: &Verdict,
+    ) -> anyhow::Result<Option<Rule>> {
+        let rt = self.rt;
+        match verdict {
+            Verdict::Keeps(program) => {
+                self.try_kept(seed, rows, program)?;
+                Ok(None)
+            }
+            Verdict::Breaks(program, rule) => {
+                let stop = run_alone(rt.alloc(), program, CARELESS);
+                self.counts.add_careless(*rule, stop);
+                Ok(Some(*rule))
+            }
+            Verdict::NoProgram => {
+                println!(rt; "seed {seed}: no program")?;
+                Ok(Some(Rule::NoFirst))
+            }
+        }
+    }
+
+    // A program made for a seed, judged by both and run.
+    fn try_program(&mut self, seed: u32, draft: &Draft) -> anyhow::Result<()> {
+        let rt = self.rt;
+        let heap = rt.alloc();
+        let rows = draft.rows.as_slice();
+        let own = own_verdict(heap, rows)?;
+        if judged(heap, rows, judge_floor(rows.len()))? != Judged::from(&own) {
+            self.counts.differ();
+            println!(rt; "seed {seed}: judged otherwise")?;
+        }
+        if self.try_verdict(seed, rows, &own)? != draft.broken {
+            self.counts.differ();
+            println!(rt; "seed {seed}: another rule is broken")?;
+        }
+        Ok(())
+    }
+
+    // Rows with exactly the work words that are needed, and with one fewer.
+    fn try_rows(&mut self, number: u32, rows: &[u32]) -> anyhow::Result<()> {
+        let rt = self.rt;
+        let heap = rt.alloc();
+        let mut rng = Rng::new(number.wrapping_add(9000));
+        let cells = rng.below(CELLS.saturating_add(1));
+        let allowed = Allowed {
+            limits: drawn_limits(&mut rng, cells),
+            room: ROOM,
+        };
+        let own = own_verdict(heap, rows)?;
+        let enough = judge_floor(rows.len());
+        let needed = allowed.floor(rows.len());
+        let ending = allowed.gone(heap, rows, needed)?;
+        self.counts.endings.count(ending);
+        let same = judged(heap, rows, enough)? == Judged::from(&own)
+            && judged(heap, rows, enough.saturating_sub(1))? == Judged::Few
+            && allowed.gone(heap, rows, needed.saturating_sub(1))? == Ran::Small
+            && same_ending(heap, rows, &own, allowed, ending)?;
+        if !same {
+            self.counts.differ();
+            println!(rt; "rows {number}: answered otherwise")?;
+        }
+        Ok(())
+    }
+
+    // Rows damaged, each time in its own way.
+    fn try_damaged(&mut self, seed: u32, rows: &[u32]) -> anyhow::Result<()> {
+        for turn in 0..DAMAGED / PROGRAMS {
+            let number = seed.wrapping_mul(DAMAGED / PROGRAMS).wrapping_add(turn);
+            let mut rng = Rng::new(number.wrapping_add(1000));
+            let bad = damaged(&mut rng, self.rt.alloc(), rows)?;
+            self.try_rows(number, bad.as_slice())?;
+        }
+        Ok(())
+    }
 }
 
 // Whether `go` ends as the verdict here has it. What keeps the rules is run by both.
@@ -151,102 +206,40 @@ fn same_ending(
     heap: Global,
     rows: &[u32],
     own: &Verdict,
-    limits: Limits,
-    ending: Ending,
+    allowed: Allowed,
+    ending: Ran,
 ) -> Result<bool, AllocError> {
     match own {
         Verdict::Keeps(program) => {
-            let trial = run_both(heap, rows, program, limits, ROOM)?;
+            let trial = allowed.run_both(heap, rows, program)?;
             Ok(trial.ending == ending && trial.difference.is_none())
         }
-        Verdict::Breaks(_, _) => Ok(ending == Ending::Careless),
-        Verdict::NoProgram => Ok(ending == Ending::NoProgram),
+        Verdict::Breaks(_, _) => Ok(ending == Ran::Unkept),
+        Verdict::NoProgram => Ok(ending == Ran::Unread),
     }
-}
-
-// Rows with exactly the work words that are needed, and with one fewer.
-fn try_rows(
-    rt: &HostRuntime,
-    number: u32,
-    rows: &[u32],
-    counts: &mut Counts,
-) -> anyhow::Result<()> {
-    let heap = rt.alloc();
-    let mut rng = Rng::new(number.wrapping_add(9000));
-    let cells = rng.below(CELLS.saturating_add(1));
-    let limits = drawn_limits(&mut rng, cells);
-    let own = own_verdict(heap, rows)?;
-    let floor = judge_floor(rows.len());
-    let mut same = same_verdict(&own, judged(heap, rows, floor)?);
-    same = same && judged(heap, rows, floor.saturating_sub(1))? == Judged::Few;
-    let needed = run_floor(rows.len(), limits);
-    same = same && gone(heap, rows, limits, needed.saturating_sub(1))? == Ending::Small;
-    let ending = gone(heap, rows, limits, needed)?;
-    counts.end(ending);
-    same = same && same_ending(heap, rows, &own, limits, ending)?;
-    if !same {
-        counts.differ();
-        println!(rt; "rows {number}: answered otherwise")?;
-    }
-    Ok(())
-}
-
-// What is said by `go`, in so many work words.
-fn gone(heap: Global, rows: &[u32], limits: Limits, words: usize) -> Result<Ending, AllocError> {
-    let mut work = vec![in heap; 0; words]?;
-    let mut shown = [0; ROOM];
-    let ran = go(
-        rows,
-        limits.cells,
-        limits.calls,
-        limits.turns,
-        &mut shown,
-        work.as_mut_slice(),
-    );
-    Ok(Ending::of(ran))
-}
-
-// Each damaged in its own way.
-fn try_all_damaged(
-    rt: &HostRuntime,
-    seed: u32,
-    rows: &[u32],
-    counts: &mut Counts,
-) -> anyhow::Result<()> {
-    for turn in 0..DAMAGED / PROGRAMS {
-        let number = seed.wrapping_mul(DAMAGED / PROGRAMS).wrapping_add(turn);
-        let bad = damaged(&mut Rng::new(number.wrapping_add(1000)), rt.alloc(), rows)?;
-        try_rows(rt, number, bad.as_slice(), counts)?;
-    }
-    Ok(())
 }
 
 fn main(rt: HostRuntime) -> anyhow::Result<()> {
     let heap = rt.alloc();
-    let mut counts = Counts::new();
-    let mut bad = Counts::new();
-    let mut limits = Counts::new();
+    let mut programs = Trials::new(&rt);
+    let mut bad = Trials::new(&rt);
+    let mut limits = Trials::new(&rt);
     for seed in 0..PROGRAMS {
         let draft = generate(heap, seed, wanted(seed))?;
-        try_program(&rt, seed, &draft, &mut counts)?;
-        try_all_damaged(&rt, seed, draft.rows.as_slice(), &mut bad)?;
+        programs.try_program(seed, &draft)?;
+        bad.try_damaged(seed, draft.rows.as_slice())?;
     }
     for number in 0..AT_LIMITS {
         let rows = rows_at_limit(heap, number)?;
-        try_rows(
-            &rt,
-            number.wrapping_add(DAMAGED),
-            rows.as_slice(),
-            &mut limits,
-        )?;
+        limits.try_rows(number.wrapping_add(DAMAGED), rows.as_slice())?;
     }
-    print_programs(&rt, PROGRAMS, &counts)?;
-    print_answers(&rt, "answers to damaged rows", &bad)?;
-    print_answers(&rt, "answers to rows at limits", &limits)?;
-    let differences = counts
-        .differences
-        .saturating_add(bad.differences)
-        .saturating_add(limits.differences);
+    print_programs(&rt, PROGRAMS, &programs.counts)?;
+    print_answers(&rt, "answers to damaged rows", &bad.counts)?;
+    print_answers(&rt, "answers to rows at limits", &limits.counts)?;
+    let differences = [programs, bad, limits]
+        .iter()
+        .map(|trials| trials.counts.differences)
+        .fold(0u32, |sum, more| sum.saturating_add(more));
     println!(rt; "\n{differences} differences")?;
     Ok(())
 }

@@ -1,11 +1,13 @@
 use crate::count::Counts;
-use crate::ending::ENDINGS;
-use crate::names::{EVENTS, FAULTS, RULES, STATEMENTS};
+use reference::boxes::Fault;
+use reference::rules::Rule;
+use reference::tally::Event;
+use reference::words::Form;
 use std::io;
 
 fn print_endings(rt: &HostRuntime, counts: &Counts) -> io::Result<()> {
-    for (name, count) in ENDINGS.iter().zip(counts.endings.iter()) {
-        if *count > 0 {
+    for (name, count) in counts.endings.named() {
+        if count > 0 {
             println!(rt; "{count:>9} {name}")?;
         }
     }
@@ -14,12 +16,12 @@ fn print_endings(rt: &HostRuntime, counts: &Counts) -> io::Result<()> {
 
 fn print_reached(rt: &HostRuntime, counts: &Counts) -> io::Result<()> {
     println!(rt; "\nstatements executed")?;
-    for (name, count) in STATEMENTS.iter().zip(counts.tally.counts.iter()) {
-        println!(rt; "{count:>9} {name}")?;
+    for (form, count) in Form::ALL.iter().zip(counts.tally.forms.iter()) {
+        println!(rt; "{count:>9} {form}")?;
     }
     println!(rt; "\nmet besides")?;
-    for (name, count) in EVENTS.iter().zip(counts.tally.events.iter()) {
-        println!(rt; "{count:>9} {name}")?;
+    for (event, count) in Event::ALL.iter().zip(counts.tally.events.iter()) {
+        println!(rt; "{count:>9} {event}")?;
     }
     for (kind, count) in counts.tally.kinds.iter().enumerate().skip(1) {
         println!(rt; "{count:>9} boxes made of kind {kind}")?;
@@ -29,15 +31,15 @@ fn print_reached(rt: &HostRuntime, counts: &Counts) -> io::Result<()> {
 
 fn print_careless(rt: &HostRuntime, counts: &Counts) -> io::Result<()> {
     println!(rt; "\ncareless: programs, those that fault, those that happen not to")?;
-    for ((_, name), broken) in RULES.iter().zip(counts.broken.iter()) {
+    for (rule, broken) in Rule::ALL.iter().zip(counts.broken.iter()) {
         let programs = broken.programs;
         let faults = broken.faults;
         let others = programs.saturating_sub(faults);
-        println!(rt; "{programs:>9} {faults:>3} {others:>3} {name}")?;
+        println!(rt; "{programs:>9} {faults:>3} {others:>3} {rule}")?;
     }
     println!(rt; "\ntheir faults")?;
-    for (name, count) in FAULTS.iter().zip(counts.faults.iter()) {
-        println!(rt; "{count:>9} {name}")?;
+    for (fault, count) in Fault::ALL.iter().zip(counts.faults.iter()) {
+        println!(rt; "{count:>9} {fault}")?;
     }
     Ok(())
 }

@@ -1,7 +1,6 @@
 use crate::compare::{Difference, Watch};
-use crate::ending::Ending;
 use generator::rng::Rng;
-use interpreter::go_observed;
+use interpreter::{Ran, go, go_observed};
 use reference::interpreter::{Limits, Run, Stop};
 use reference::tally::Tally;
 use reference::tree::Program;
@@ -13,7 +12,7 @@ const STEPS: u32 = 10_000_000;
 // What came of a run by both.
 #[derive(Clone, Copy)]
 pub struct Trial {
-    pub ending: Ending,
+    pub ending: Ran,
     pub steps: u64,
     pub tally: Tally,
     pub difference: Option<Difference>,
@@ -22,15 +21,6 @@ pub struct Trial {
 // The fewest work words that judging so many words needs.
 pub fn judge_floor(words: usize) -> usize {
     words.saturating_mul(4).saturating_add(8192)
-}
-
-// The fewest work words that a run needs.
-pub fn run_floor(words: usize, limits: Limits) -> usize {
-    let cells = (limits.cells as usize).saturating_mul(2);
-    let calls = (limits.calls as usize).saturating_mul(512);
-    judge_floor(words)
-        .saturating_add(cells)
-        .saturating_add(calls)
 }
 
 // Limits with so many cells: small and large numbers of calls and turns.
@@ -62,34 +52,64 @@ pub fn drawn_room(rng: &mut Rng) -> usize {
     }
 }
 
-// Runs a program by both, in no more work words than needed, and compares after every step.
-pub fn run_both(
-    heap: Global,
-    rows: &[u32],
-    program: &Program,
-    limits: Limits,
-    room: usize,
-) -> Result<Trial, AllocError> {
-    let mut work = vec![in heap; 0; run_floor(rows.len(), limits)]?;
-    let mut shown = vec![in heap; 0; room]?;
-    let mut watch = Watch::start(heap, program, limits, room)?;
-    let ran = go_observed(
-        rows,
-        limits.cells,
-        limits.calls,
-        limits.turns,
-        shown.as_mut_slice(),
-        work.as_mut_slice(),
-        &mut watch,
-    );
-    let ending = Ending::of(ran);
-    watch.conclude(ending, shown.as_slice());
-    Ok(Trial {
-        ending,
-        steps: watch.steps,
-        tally: watch.run.tally,
-        difference: watch.difference,
-    })
+// What the host allows a run: its limits, and room for numbers shown.
+#[derive(Clone, Copy)]
+pub struct Allowed {
+    pub limits: Limits,
+    pub room: usize,
+}
+
+impl Allowed {
+    // The fewest work words that a run of so many words needs.
+    pub fn floor(self, words: usize) -> usize {
+        let cells = (self.limits.cells as usize).saturating_mul(2);
+        let calls = (self.limits.calls as usize).saturating_mul(512);
+        judge_floor(words)
+            .saturating_add(cells)
+            .saturating_add(calls)
+    }
+
+    // What is said by `go`, in so many work words.
+    pub fn gone(self, heap: Global, rows: &[u32], words: usize) -> Result<Ran, AllocError> {
+        let mut work = vec![in heap; 0; words]?;
+        let mut shown = vec![in heap; 0; self.room]?;
+        Ok(go(
+            rows,
+            self.limits.cells,
+            self.limits.calls,
+            self.limits.turns,
+            shown.as_mut_slice(),
+            work.as_mut_slice(),
+        ))
+    }
+
+    // Runs a program by both, in no more work words than needed, and compares after every step.
+    pub fn run_both(
+        self,
+        heap: Global,
+        rows: &[u32],
+        program: &Program,
+    ) -> Result<Trial, AllocError> {
+        let mut work = vec![in heap; 0; self.floor(rows.len())]?;
+        let mut shown = vec![in heap; 0; self.room]?;
+        let mut watch = Watch::start(heap, program, self)?;
+        let ending = go_observed(
+            rows,
+            self.limits.cells,
+            self.limits.calls,
+            self.limits.turns,
+            shown.as_mut_slice(),
+            work.as_mut_slice(),
+            &mut watch,
+        );
+        watch.conclude(ending, shown.as_slice());
+        Ok(Trial {
+            ending,
+            steps: watch.steps,
+            tally: watch.run.tally,
+            difference: watch.difference,
+        })
+    }
 }
 
 // Runs a program by the interpreter alone.

@@ -1,0 +1,65 @@
+use reference::tree::{Expression, Node, Operator, Statement};
+use std::alloc::{AllocError, Global};
+
+// A statement that stands in another. Where that is in the rows is told by them alone.
+fn inner(heap: Global, statement: Statement) -> Result<Box<Node>, AllocError> {
+    Ok(Box::new(heap, Node { at: 0, statement })?)
+}
+
+pub fn pair(heap: Global, s: Statement, t: Statement) -> Result<Statement, AllocError> {
+    Ok(Statement::Then(inner(heap, s)?, inner(heap, t)?))
+}
+
+pub fn branch(
+    heap: Global,
+    test: Expression,
+    s: Statement,
+    t: Statement,
+) -> Result<Statement, AllocError> {
+    Ok(Statement::If(test, inner(heap, s)?, inner(heap, t)?))
+}
+
+pub fn repeated(heap: Global, test: Expression, s: Statement) -> Result<Statement, AllocError> {
+    Ok(Statement::While(test, inner(heap, s)?))
+}
+
+pub fn reckoned(
+    heap: Global,
+    operator: Operator,
+    a: Expression,
+    b: Expression,
+) -> Result<Expression, AllocError> {
+    Ok(Expression::Reckoned(operator, Box::new(heap, a)?, Box::new(heap, b)?))
+}
+
+// Statements one after the other: each is paired with all behind it.
+pub fn in_order(
+    heap: Global,
+    statements: Vec<Statement>,
+    last: Statement,
+) -> Result<Statement, AllocError> {
+    let mut whole = last;
+    for statement in statements.into_iter().rev() {
+        whole = pair(heap, statement, whole)?;
+    }
+    Ok(whole)
+}
+
+// Statements one after the other: each is paired with all before it.
+pub fn in_order_leftward(
+    heap: Global,
+    statements: Vec<Statement>,
+    last: Statement,
+) -> Result<Statement, AllocError> {
+    let mut whole = None;
+    for statement in statements {
+        whole = Some(match whole {
+            Some(before) => pair(heap, before, statement)?,
+            None => statement,
+        });
+    }
+    match whole {
+        Some(before) => pair(heap, before, last),
+        None => Ok(last),
+    }
+}

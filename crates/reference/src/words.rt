@@ -1,0 +1,153 @@
+use crate::tree::{Mark, Operator, Statement, Transfer};
+use std::fmt;
+
+// A word that stands for nothing of the sort that is read.
+#[derive(Clone, Copy, Debug, PartialEq, Eq)]
+pub struct UnknownWord(pub u32);
+
+// The forms of statements, in the order of the words that they begin with.
+#[derive(Clone, Copy, Debug, PartialEq, Eq, PartialOrd, Ord)]
+pub enum Form {
+    Skip,
+    Then,
+    Set,
+    Box,
+    Unbox,
+    Look,
+    Fill,
+    Move,
+    Drop,
+    If,
+    While,
+    Call,
+    Show,
+}
+
+impl Form {
+    pub const ALL: [Form; 13] = [
+        Form::Skip,
+        Form::Then,
+        Form::Set,
+        Form::Box,
+        Form::Unbox,
+        Form::Look,
+        Form::Fill,
+        Form::Move,
+        Form::Drop,
+        Form::If,
+        Form::While,
+        Form::Call,
+        Form::Show,
+    ];
+}
+
+impl From<Transfer> for Form {
+    fn from(transfer: Transfer) -> Form {
+        match transfer {
+            Transfer::Box => Form::Box,
+            Transfer::Unbox => Form::Unbox,
+            Transfer::Look => Form::Look,
+            Transfer::Fill => Form::Fill,
+            Transfer::Move => Form::Move,
+        }
+    }
+}
+
+impl From<&Statement> for Form {
+    fn from(statement: &Statement) -> Form {
+        match statement {
+            Statement::Skip => Form::Skip,
+            Statement::Then(_, _) => Form::Then,
+            Statement::Set(_, _) => Form::Set,
+            Statement::Between(transfer, _, _) => Form::from(*transfer),
+            Statement::Drop(_) => Form::Drop,
+            Statement::If(_, _, _) => Form::If,
+            Statement::While(_, _) => Form::While,
+            Statement::Call(_) => Form::Call,
+            Statement::Show(_) => Form::Show,
+        }
+    }
+}
+
+impl From<Form> for u32 {
+    fn from(form: Form) -> u32 {
+        form as u32
+    }
+}
+
+impl TryFrom<u32> for Form {
+    type Error = UnknownWord;
+
+    fn try_from(word: u32) -> Result<Form, UnknownWord> {
+        Form::ALL
+            .get(word as usize)
+            .copied()
+            .ok_or(UnknownWord(word))
+    }
+}
+
+impl fmt::Display for Form {
+    fn fmt<W: fmt::Write>(&self, f: &mut fmt::Formatter<W>) -> fmt::Result {
+        f.write_str(match self {
+            Form::Skip => "skip",
+            Form::Then => "s; t",
+            Form::Set => "set",
+            Form::Box => "box",
+            Form::Unbox => "unbox",
+            Form::Look => "look",
+            Form::Fill => "fill",
+            Form::Move => "move",
+            Form::Drop => "drop",
+            Form::If => "if",
+            Form::While => "while",
+            Form::Call => "call",
+            Form::Show => "show",
+        })
+    }
+}
+
+impl From<Mark> for u32 {
+    fn from(mark: Mark) -> u32 {
+        match mark {
+            Mark::Over => 0,
+            Mark::Lent => 1,
+        }
+    }
+}
+
+impl TryFrom<u32> for Mark {
+    type Error = UnknownWord;
+
+    fn try_from(word: u32) -> Result<Mark, UnknownWord> {
+        match word {
+            0 => Ok(Mark::Over),
+            1 => Ok(Mark::Lent),
+            _ => Err(UnknownWord(word)),
+        }
+    }
+}
+
+impl From<Operator> for u32 {
+    fn from(operator: Operator) -> u32 {
+        match operator {
+            Operator::Add => 2,
+            Operator::Subtract => 3,
+            Operator::Multiply => 4,
+            Operator::Less => 5,
+        }
+    }
+}
+
+impl TryFrom<u32> for Operator {
+    type Error = UnknownWord;
+
+    fn try_from(word: u32) -> Result<Operator, UnknownWord> {
+        match word {
+            2 => Ok(Operator::Add),
+            3 => Ok(Operator::Subtract),
+            4 => Ok(Operator::Multiply),
+            5 => Ok(Operator::Less),
+            _ => Err(UnknownWord(word)),
+        }
+    }
+}
