@@ -34,7 +34,7 @@ pub const RELEASED: usize = 4;
 
 // Where the statement at a place is entered: a pair is entered where its first part is.
 fn entry(rows: &[u32], at: usize) -> usize
-    requires { (length rows.now ≤ 16384) × (StandsS rows.now at) }
+    requires { StandsS rows.now at }
     ensures enters { Enters rows.now at result }
     ensures near { result < length rows.now }
 {

@@ -141,7 +141,7 @@ pub(crate) fn word(rows: &[u32], at: usize) -> u32
 
 // The expression that begins at a place.
 pub fn expression_at(rows: &[u32], at: usize) -> Option<Expression>
-    requires { (length rows.now ≤ 16384) × (at ≤ length rows.now) }
+    requires { at ≤ length rows.now }
     ensures { NodeAt rows.now at result }
 {
     let node = Expression::from_words(word(rows, at), word(rows, at + 1))?;
@@ -154,7 +154,7 @@ pub fn expression_at(rows: &[u32], at: usize) -> Option<Expression>
 
 // The statement that begins at a place.
 pub fn statement_at(rows: &[u32], at: usize) -> Option<Statement>
-    requires { (length rows.now ≤ 16384) × (at ≤ length rows.now) }
+    requires { at ≤ length rows.now }
     ensures { HeadAt rows.now at result }
 {
     let head = Statement::from_words(
@@ -172,7 +172,7 @@ pub fn statement_at(rows: &[u32], at: usize) -> Option<Statement>
 
 // The head of the expression that stands at a place.
 pub fn expression_head(rows: &[u32], at: usize) -> Expression
-    requires { (length rows.now ≤ 16384) × (StandsE rows.now at) }
+    requires { StandsE rows.now at }
     ensures { NodeAt rows.now at (Some result) }
 {
     expression_at(rows, at).unwrap()
@@ -180,7 +180,7 @@ pub fn expression_head(rows: &[u32], at: usize) -> Expression
 
 // The head of the statement that stands at a place.
 pub fn statement_head(rows: &[u32], at: usize) -> Statement
-    requires { (length rows.now ≤ 16384) × (StandsS rows.now at) }
+    requires { StandsS rows.now at }
     ensures { HeadAt rows.now at (Some result) }
 {
     statement_at(rows, at).unwrap()
@@ -188,7 +188,7 @@ pub fn statement_head(rows: &[u32], at: usize) -> Statement
 
 // Where n expressions end that stand one after the other from a place on, each at most so deep.
 fn expressions_end(rows: &[u32], at: usize, n: u32, depth: u32) -> Option<usize>
-    requires { (length rows.now ≤ 16384) × (at ≤ length rows.now) }
+    requires { at ≤ length rows.now }
     ensures { Ended rows.now (many (λ us. read_e depth us) n (drop at rows.now)) result }
 {
     let mut end = at;
@@ -211,7 +211,7 @@ fn are_marked(arguments: &[[u32; 2]]) -> bool
 
 // Where n arguments of a call end.
 fn arguments_end(rows: &[u32], at: usize, n: u32) -> Option<usize>
-    requires { (length rows.now ≤ 16384) × (at ≤ length rows.now) }
+    requires { at ≤ length rows.now }
     ensures { Ended rows.now (many read_a n (drop at rows.now)) result }
 {
     let end = at + 2 * n as usize;
@@ -225,7 +225,7 @@ fn arguments_end(rows: &[u32], at: usize, n: u32) -> Option<usize>
 
 // Where n statements end that stand one after the other from a place on, each at most so deep.
 pub(crate) fn statements_end(rows: &[u32], at: usize, n: u32, depth: u32) -> Option<usize>
-    requires { (length rows.now ≤ 16384) × (at ≤ length rows.now) }
+    requires { at ≤ length rows.now }
     ensures { Ended rows.now (many (λ us. read_s depth us) n (drop at rows.now)) result }
 {
     let mut end = at;

@@ -41,7 +41,7 @@ fn are_up_to(words: &[u32], most: u32) -> bool
 
 // Where n words end that are at most `most`.
 fn words_end(rows: &[u32], at: usize, n: u32, most: u32) -> Option<usize>
-    requires { (length rows.now ≤ 16384) × (at ≤ length rows.now) }
+    requires { at ≤ length rows.now }
     ensures { Ended rows.now (many (below1 (most + 1)) n (drop at rows.now)) result }
 {
     let end = at + n as usize;
@@ -55,7 +55,7 @@ fn words_end(rows: &[u32], at: usize, n: u32, most: u32) -> Option<usize>
 
 // Where the signature of a procedure ends that begins at a place.
 fn signature_end(rows: &[u32], at: usize) -> Option<usize>
-    requires { (length rows.now ≤ 16384) × (at ≤ length rows.now) }
+    requires { at ≤ length rows.now }
     ensures { Ended rows.now (read_sig (drop at rows.now)) result }
 {
     let vars = word_up_to(rows, at, MAX_VARIABLES)?;
@@ -71,7 +71,7 @@ fn signature_end(rows: &[u32], at: usize) -> Option<usize>
 
 // Where the procedure ends that begins at a place.
 fn procedure_end(rows: &[u32], at: usize) -> Option<usize>
-    requires { (length rows.now ≤ 16384) × (at ≤ length rows.now) }
+    requires { at ≤ length rows.now }
     ensures { Ended rows.now (read_p (drop at rows.now)) result }
 {
     let body = signature_end(rows, at)?;

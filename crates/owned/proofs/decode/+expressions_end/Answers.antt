@@ -6,7 +6,7 @@ use Rattle.owned.proofs.Ends.{rest_begin, rest_done, rest_none, rest_more, no_fu
 use Rattle.owned.proofs.decode.+expressions_end.Goals as goal
 
 pub loop-i-init : goal.loop-i-init
-loop-i-init t c = rest_begin E c.args.rows.now (λ us. read_e c.args.depth us) c.args.n c.args.at c.requires.1
+loop-i-init t c = rest_begin E c.args.rows.now (λ us. read_e c.args.depth us) c.args.n c.args.at c.requires
 
 pub returns-then-depth-eq0 : goal.returns-then-depth-eq0
 returns-then-depth-eq0 t c =

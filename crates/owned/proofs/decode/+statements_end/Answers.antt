@@ -13,7 +13,7 @@ refused t c o e h =
     (rest_none S c.args.rows.now (λ us. read_s c.args.depth us) c.args.n c.args.at _ _ c.loop-i.invariant (omega arith) h)
 
 pub loop-i-init : goal.loop-i-init
-loop-i-init t c = rest_begin S c.args.rows.now (λ us. read_s c.args.depth us) c.args.n c.args.at c.requires.1
+loop-i-init t c = rest_begin S c.args.rows.now (λ us. read_s c.args.depth us) c.args.n c.args.at c.requires
 
 pub returns-then-depth-eq0 : goal.returns-then-depth-eq0
 returns-then-depth-eq0 t c =

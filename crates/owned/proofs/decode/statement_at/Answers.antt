@@ -17,7 +17,7 @@ returns-in_err-head c =
 pub returns-then-shape-rows : goal.returns-then-shape-rows
 returns-then-shape-rows c =
     fits_there head_shape head_of c.args.rows.now c.args.at c.from_words.result (by_words (goal.at.returns-then-shape-rows c).After-from_words)
-    c.in_ok-head.head c.in_ok-head.was c.shape.result c.shape.ensures c.requires.1 c.if-shape-rows.true
+    c.in_ok-head.head c.in_ok-head.was c.shape.result c.shape.ensures c.requires c.if-shape-rows.true
 
 pub returns-else-shape-rows : goal.returns-else-shape-rows
 returns-else-shape-rows c =

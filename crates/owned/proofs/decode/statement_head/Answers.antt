@@ -4,10 +4,10 @@ use Rattle.owned.proofs.Reading.{stands_s_within, there_s}
 use Rattle.owned.proofs.decode.statement_head.Goals as goal
 
 pub statement_at-requires : goal.statement_at-requires
-statement_at-requires c = (c.requires.0, omega (arith, stands_s_within c.args.rows.now c.args.at c.requires.1))
+statement_at-requires c = omega (arith, stands_s_within c.args.rows.now c.args.at c.requires)
 
 pub unwrap-requires : goal.unwrap-requires
-unwrap-requires c = there_s c.args.rows.now c.args.at c.requires.1 c.statement_at.result c.statement_at.ensures
+unwrap-requires c = there_s c.args.rows.now c.args.at c.requires c.statement_at.result c.statement_at.ensures
 
 pub returns : goal.returns
 returns c = subst (λ o. HeadAt c.args.rows.now c.args.at o) c.unwrap.ensures c.statement_at.ensures

@@ -17,11 +17,11 @@ pub bounds-self-at-2 : goal.bounds-self-at-2
 bounds-self-at-2 t c = omega (arith, inside_rows (code c.args.self.now) c.args.at c.requires.0, c.args.self.now.other_room)
 
 pub statement_head-requires : goal.statement_head-requires
-statement_head-requires t c = (c.args.self.now.short, stands (code c.args.self.now) c.args.at c.requires.0)
+statement_head-requires t c = stands (code c.args.self.now) c.args.at c.requires.0
 
 -- a pair
 pub entry-requires : goal.entry-requires
-entry-requires t c = (c.args.self.now.short, pair_other (code c.args.self.now) c.args.at c.in-Then.ensures c.requires.0)
+entry-requires t c = pair_other (code c.args.self.now) c.args.at c.in-Then.ensures c.requires.0
 
 pub link-requires : goal.link-requires
 link-requires t c =
@@ -44,10 +44,10 @@ returns-in-Then t c =
 
 -- if
 pub entry-requires-in-If : goal.entry-requires-in-If
-entry-requires-in-If t c = (c.args.self.now.short, (branch_there (code c.args.self.now) c.args.at c.in-If.ensures c.requires.0).0)
+entry-requires-in-If t c = (branch_there (code c.args.self.now) c.args.at c.in-If.ensures c.requires.0).0
 
 pub entry-requires-in-If-2 : goal.entry-requires-in-If-2
-entry-requires-in-If-2 t c = (c.args.self.now.short, (branch_there (code c.args.self.now) c.args.at c.in-If.ensures c.requires.0).1)
+entry-requires-in-If-2 t c = (branch_there (code c.args.self.now) c.args.at c.in-If.ensures c.requires.0).1
 
 pub link-requires-in-If : goal.link-requires-in-If
 link-requires-in-If t c =
@@ -70,7 +70,7 @@ returns-in-If t c =
 
 -- while
 pub entry-requires-in-While : goal.entry-requires-in-While
-entry-requires-in-While t c = (c.args.self.now.short, body_there (code c.args.self.now) c.args.at c.in-While.ensures c.requires.0)
+entry-requires-in-While t c = body_there (code c.args.self.now) c.args.at c.in-While.ensures c.requires.0
 
 pub link-requires-in-While : goal.link-requires-in-While
 link-requires-in-While t c =
