@@ -21,8 +21,8 @@ impl<'a> FreeCells<'a> {
         ensures many { result.cells ≡ cells }
         ensures past { drop cells result.links.now ≡ drop cells links.old }
     {
-        for cell in 0..cells {
-            links[cell as usize] = cell + 1;
+        for (cell, link) in links[..cells as usize].iter_mut().enumerate() {
+            *link = cell as u32 + 1;
         }
         FreeCells {
             links,

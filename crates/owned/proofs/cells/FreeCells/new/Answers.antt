@@ -1,19 +1,10 @@
-use Rattle.std.proofs.Common.{◌+◌, refl, ◌∙◌, arith, below_more}
-use Rattle.std.proofs.lemmas.List.{get_or-set_same, get_or-set_other, drop-set-lt}
+use Rattle.std.proofs.Common.{◌≡◌, ◌++◌, ◌∙◌, length, drop, arith}
+use Rattle.std.proofs.lemmas.List.{get_or_append_left, length-take-le, length-append}
 use Rattle.owned.proofs.FreeCells.{all_linked}
 use Rattle.owned.proofs.cells.FreeCells.new.Goals as goal
 
-pub loop-cell-preserved : goal.loop-cell-preserved
-loop-cell-preserved c = (
-  below_more _ _
-      (λ k h. get_or-set_other c.loop-cell.links c.loop-cell.cell k (c.loop-cell.cell + 1) 0 (omega arith) ∙ c.loop-cell.invariant.0 k h)
-      (get_or-set_same c.loop-cell.links c.loop-cell.cell (c.loop-cell.cell + 1) 0 (omega arith)),
-  drop-set-lt c.args.cells c.loop-cell.links c.loop-cell.cell (c.loop-cell.cell + 1) (omega arith) ∙ c.loop-cell.invariant.1,
-)
-
-pub returns : goal.returns
-returns c = record {
-  list = all_linked c.loop-cell.links c.args.cells (omega arith) (λ k h. c.loop-cell.invariant.0 k (omega arith));
-  many = refl;
-  past = c.loop-cell.invariant.1;
-}
+pub returns-clause-list : goal.returns-clause-list
+returns-clause-list c =
+    let n : length c.loop-cell.link-items ≡ c.args.cells = c.loop-cell.auto.link-items ∙ length-take-le c.args.cells c.args.links.now c.requires in
+    all_linked (c.loop-cell.link-items ++ drop c.args.cells c.args.links.now) c.args.cells (omega (arith, n, length-append c.loop-cell.link-items (drop c.args.cells c.args.links.now)))
+    (λ k h. get_or_append_left c.loop-cell.link-items (drop c.args.cells c.args.links.now) 0 k (omega arith) ∙ c.loop-cell.invariant k (omega arith))
