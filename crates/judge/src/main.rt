@@ -1,7 +1,7 @@
 #![tactic(auto)]
 
 use input::{Exit, read_numbers};
-use owned::{Judged, MAX_WORDS, judge};
+use owned::{MAX_WORDS, judge};
 
 // Enough work words for the longest program.
 const WORK_WORDS: usize = 8192 + 4 * (MAX_WORDS + 1);
@@ -10,12 +10,7 @@ const WORK_WORDS: usize = 8192 + 4 * (MAX_WORDS + 1);
 fn judge_input(rt: &HostRuntime) -> anyhow::Result<()> {
     let rows = read_numbers(rt.alloc(), &mut rt.stdin(), MAX_WORDS)?;
     let mut work = vec![in rt.alloc(); 0; WORK_WORDS]?;
-    let says = match judge(rows.as_slice(), work.as_mut_slice()) {
-        Judged::Keeps => "keeps",
-        Judged::Careless => "careless",
-        Judged::NoProgram => "no program",
-        Judged::Few => "few",
-    };
+    let says = judge(rows.as_slice(), work.as_mut_slice());
     println!(rt; "{says}")?;
     Ok(())
 }

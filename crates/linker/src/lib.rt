@@ -210,6 +210,7 @@ impl Linker<'_> {
     {
         let mut f = 0;
         let mut at = 0;
+        // Where the next begins is known only once this one is linked.
         while at < self.rows.len() {
             at = self.procedure(f, at);
             f += 1;

@@ -1,6 +1,7 @@
 ghost use Rattle.std.specs.Prelude.{◌≤◌, length};
 
-// The tables of a program while they are filled.
+// The tables of a program while they are filled: a word for each word of the rows, in lent memory, since there is no
+// heap. The interpreter reads each of them by the place at hand.
 #[derive(Drop)]
 pub(crate) struct Linker<'a> {
     pub rows: &'a [u32],

@@ -4,7 +4,6 @@ pub mod Runs
 pub mod Machine
 pub mod Strict
 pub mod FreeList
-pub mod Code
 pub mod Kept
 pub mod Values
 pub mod Holders

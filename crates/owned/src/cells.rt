@@ -58,6 +58,7 @@ impl<'a> FreeCells<'a> {
             return;
         }
         let mut before = self.head;
+        // The list lies in the links: the walk goes from one to the next.
         while self.links[before as usize] < cell.0 {
             before = self.links[before as usize];
         }

@@ -69,6 +69,7 @@ impl Shape {
 }
 
 impl Expression {
+    // By its first two words, so this is no conversion of one value.
     fn from_words(code: u32, operand: u32) -> Option<Expression>
         ensures { result ≡ node_by code operand }
     {
@@ -94,6 +95,7 @@ impl Expression {
 }
 
 impl Statement {
+    // By its first four words.
     fn from_words(code: u32, x: u32, y: u32, n: u32) -> Option<Statement>
         ensures { result ≡ head_by code x y n }
     {
@@ -139,7 +141,8 @@ pub(crate) fn word(rows: &[u32], at: usize) -> u32
     rows.get(at).copied().unwrap_or(0)
 }
 
-// The expression that begins at a place.
+// The expression that begins at a place. Places are numbers, and not slices of what is left, since the rules and the
+// tables go back to them.
 pub fn expression_at(rows: &[u32], at: usize) -> Option<Expression>
     requires { at ≤ length rows.now }
     ensures { NodeAt rows.now at result }

@@ -22,7 +22,8 @@ const MAX_KIND: u32 = 8;
 
 const MAX_NESTING: u32 = 128;
 
-// The mark of an argument that is lent; 0 is handed over.
+// The mark of an argument that is lent; 0 is handed over. A mark stays the word that it is in the rows: the rules
+// compare these words, and an enum would ask that each is one of the two wherever one is looked at.
 pub(crate) const LENT: u32 = 1;
 
 // The word at a place, if it is there and at most `most`.
@@ -85,6 +86,7 @@ pub(crate) fn procedures(rows: &[u32], starts: &mut [u32]) -> Option<usize>
 {
     let mut at = 0;
     let mut n = 0;
+    // Where the next begins is known only once this one is read: there is nothing to iterate over.
     while at < rows.len() {
         if n == MAX_PROCEDURES {
             return None;

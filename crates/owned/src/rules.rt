@@ -302,6 +302,7 @@ impl Program<'_> {
         requires { Fine self.now.rows.now self.now.starts.now }
         ensures { (g : Prog) → Placed self.now.rows.now self.now.starts.now g → result ≡ kept_all g g }
     {
+        // A procedure is found by its number.
         for f in 0..self.starts.len() {
             let checker = Checker {
                 program: *self,

@@ -4,7 +4,7 @@ ghost use Rattle.owned.specs.Decode.{variable};
 
 use crate::names::Var;
 
-// The full variables of a procedure, a bit for each.
+// The full variables of a procedure, a bit for each: one word, since there is no heap for a set.
 #[derive(Clone, Copy)]
 pub struct VarSet(pub u32);
 
