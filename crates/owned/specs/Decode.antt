@@ -44,6 +44,10 @@ abbrev pub fits : {H : Type 0} → (H → Shape) → List ℕ → Option H → H
 fits shape ws None = None
 fits shape ws (Some h) = guard (nat_le (shape h).words (length ws)) (Some (h, drop (shape h).words ws))
 
+-- a head at the front of words, by the first four of them
+abbrev pub head_of_by : {H : Type 0} → (H → Shape) → (ℕ → ℕ → ℕ → ℕ → Option H) → List ℕ → Hit H
+head_of_by shape by ws = fits shape ws (by (slice_index ws 0) (slice_index ws 1) (slice_index ws 2) (slice_index ws 3))
+
 abbrev pub variable : ℕ → Var
 variable x = record { 0 = x }
 
@@ -63,7 +67,7 @@ node_shape (Variable x) = record { words = 2; exprs = 0; args = 0; subs = 0 }
 node_shape (Binary o) = record { words = 1; exprs = 2; args = 0; subs = 0 }
 
 abbrev pub node_of : List ℕ → Hit Expression
-node_of ws = fits node_shape ws (node_by (slice_index ws 0) (slice_index ws 1))
+node_of = head_of_by node_shape (λ w x y n. node_by w x)
 
 abbrev pub binary : Operator → E → E → E
 binary Add a b = E.add a b
@@ -110,7 +114,7 @@ head_shape (Call x f m) = record { words = 4; exprs = 0; args = m; subs = 0 }
 head_shape Show = record { words = 1; exprs = 1; args = 0; subs = 0 }
 
 abbrev pub head_of : List ℕ → Hit Statement
-head_of ws = fits head_shape ws (head_by (slice_index ws 0) (slice_index ws 1) (slice_index ws 2) (slice_index ws 3))
+head_of = head_of_by head_shape head_by
 
 -- what follows a head
 pub record Parts (h : Statement) : Type 0 where

@@ -1,7 +1,8 @@
-ghost use Rattle.std.specs.Prelude.{◌≡◌, ◌+◌, ◌≤◌, length, drop, nat_lt, slice_index, Some};
+ghost use Rattle.std.specs.Prelude.{◌≡◌, ℕ, Option, ◌+◌, ◌≤◌, length, drop, nat_lt, slice_index, Some};
 ghost use Rattle.std.specs.List.{list_all};
-ghost use Rattle.owned.specs.Decode.{node_by, node_shape, head_by, head_shape, many, read_a, read_e, read_s};
-ghost use Rattle.owned.specs.Ends.{Ended, NodeAt, HeadAt, StandsE, StandsS};
+ghost use Rattle.owned.specs.declared.decode.Shape.{Shape};
+ghost use Rattle.owned.specs.Decode.{head_of_by, node_by, node_shape, head_by, head_shape, many, read_a, read_e, read_s};
+ghost use Rattle.owned.specs.Ends.{Ended, FitsAt, NodeAt, HeadAt, StandsE, StandsS};
 
 use crate::names::Var;
 
@@ -68,14 +69,27 @@ impl Shape {
     }
 }
 
-impl Expression {
-    // By its first two words, so this is no conversion of one value.
-    fn from_words(code: u32, operand: u32) -> Option<Expression>
-        ensures { result ≡ node_by code operand }
+// What an expression or a statement begins with. It is said by its first four words at most, so this is no conversion of
+// one value.
+pub trait Head: Copy {
+    ghost said_by: { ℕ → ℕ → ℕ → ℕ → Option Self };
+    ghost shape_of: { Self → Shape };
+    fn from_words(code: u32, x: u32, y: u32, n: u32) -> Option<Self>
+        ensures { result ≡ said_by code x y n };
+    fn shape(self) -> Shape
+        ensures { result ≡ shape_of self };
+}
+
+impl Head for Expression {
+    ghost said_by = { λ w x y n. node_by w x };
+    ghost shape_of = { node_shape };
+
+    fn from_words(code: u32, x: u32, _y: u32, _n: u32) -> Option<Expression>
+        ensures { result ≡ node_by code x }
     {
         match code {
-            0 => Some(Expression::Number(operand)),
-            1 => Some(Expression::Variable(Var(operand))),
+            0 => Some(Expression::Number(x)),
+            1 => Some(Expression::Variable(Var(x))),
             2 => Some(Expression::Binary(Operator::Add)),
             3 => Some(Expression::Binary(Operator::Sub)),
             4 => Some(Expression::Binary(Operator::Mul)),
@@ -94,8 +108,10 @@ impl Expression {
     }
 }
 
-impl Statement {
-    // By its first four words.
+impl Head for Statement {
+    ghost said_by = { head_by };
+    ghost shape_of = { head_shape };
+
     fn from_words(code: u32, x: u32, y: u32, n: u32) -> Option<Statement>
         ensures { result ≡ head_by code x y n }
     {
@@ -117,7 +133,7 @@ impl Statement {
         }
     }
 
-    pub fn shape(self) -> Shape
+    fn shape(self) -> Shape
         ensures { result ≡ head_shape self }
     {
         match self {
@@ -141,26 +157,13 @@ pub(crate) fn word(rows: &[u32], at: usize) -> u32
     rows.get(at).copied().unwrap_or(0)
 }
 
-// The expression that begins at a place. Places are numbers, and not slices of what is left, since the rules and the
-// tables go back to them.
-pub fn expression_at(rows: &[u32], at: usize) -> Option<Expression>
+// The head that begins at a place. Places are numbers, and not slices of what is left, since the rules and the tables go
+// back to them.
+pub fn head_at<H: Head>(rows: &[u32], at: usize) -> Option<H>
     requires { at ≤ length rows.now }
-    ensures { NodeAt rows.now at result }
+    ensures { FitsAt H.shape_of (head_of_by H.shape_of H.said_by) rows.now at result }
 {
-    let node = Expression::from_words(word(rows, at), word(rows, at + 1))?;
-    if node.shape().words <= rows.len() - at {
-        Some(node)
-    } else {
-        None
-    }
-}
-
-// The statement that begins at a place.
-pub fn statement_at(rows: &[u32], at: usize) -> Option<Statement>
-    requires { at ≤ length rows.now }
-    ensures { HeadAt rows.now at result }
-{
-    let head = Statement::from_words(
+    let head = H::from_words(
         word(rows, at),
         word(rows, at + 1),
         word(rows, at + 2),
@@ -178,7 +181,7 @@ pub fn expression_head(rows: &[u32], at: usize) -> Expression
     requires { StandsE rows.now at }
     ensures { NodeAt rows.now at (Some result) }
 {
-    expression_at(rows, at).unwrap()
+    head_at::<Expression>(rows, at).unwrap()
 }
 
 // The head of the statement that stands at a place.
@@ -186,7 +189,7 @@ pub fn statement_head(rows: &[u32], at: usize) -> Statement
     requires { StandsS rows.now at }
     ensures { HeadAt rows.now at (Some result) }
 {
-    statement_at(rows, at).unwrap()
+    head_at::<Statement>(rows, at).unwrap()
 }
 
 // Where n expressions end that stand one after the other from a place on, each at most so deep.
@@ -199,7 +202,7 @@ fn expressions_end(rows: &[u32], at: usize, n: u32, depth: u32) -> Option<usize>
         if depth == 0 {
             return None;
         }
-        let shape = expression_at(rows, end)?.shape();
+        let shape = head_at::<Expression>(rows, end)?.shape();
         end = expressions_end(rows, end + shape.words, shape.exprs, depth - 1)?;
     }
     Some(end)
@@ -236,7 +239,7 @@ pub(crate) fn statements_end(rows: &[u32], at: usize, n: u32, depth: u32) -> Opt
         if depth == 0 {
             return None;
         }
-        let shape = statement_at(rows, end)?.shape();
+        let shape = head_at::<Statement>(rows, end)?.shape();
         let args = expressions_end(rows, end + shape.words, shape.exprs, depth - 1)?;
         let subs = arguments_end(rows, args, shape.args)?;
         end = statements_end(rows, subs, shape.subs, depth - 1)?;

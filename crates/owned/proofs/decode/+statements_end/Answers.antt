@@ -19,31 +19,31 @@ pub returns-then-depth-eq0 : goal.returns-then-depth-eq0
 returns-then-depth-eq0 t c =
     rest_none S c.args.rows.now (λ us. read_s c.args.depth us) c.args.n c.args.at _ _ c.loop-i.invariant (omega arith) (no_fuel_s c.args.rows.now _ c.args.depth c.if-depth-eq0.true)
 
-pub returns-in_err-statement_at : goal.returns-in_err-statement_at
-returns-in_err-statement_at t c =
-    refused t (goal.at.returns-in_err-statement_at t c).Else-depth-eq0 _ c.from_residual.ensures (no_head c.args.rows.now c.loop-i.end c.args.depth (omega arith) c.in_err-statement_at.ensures)
+pub returns-in_err-head_at : goal.returns-in_err-head_at
+returns-in_err-head_at t c =
+    refused t (goal.at.returns-in_err-head_at t c).Else-depth-eq0 _ c.from_residual.ensures (no_head c.args.rows.now c.loop-i.end c.args.depth (omega arith) c.in_err-head_at.ensures)
 
 pub returns-in_err-args : goal.returns-in_err-args
 returns-in_err-args t c =
     refused t (goal.at.returns-in_err-args t c).Else-depth-eq0 _ c.from_residual-in_err-args.ensures
-    (no_exprs c.args.rows.now c.loop-i.end c.args.depth (omega arith) c.in_ok-statement_at.field-0 c.in_ok-statement_at.ensures c.shape-shape.result c.shape-shape.ensures c.in_err-args.ensures)
+    (no_exprs c.args.rows.now c.loop-i.end c.args.depth (omega arith) c.in_ok-head_at.field-0 c.in_ok-head_at.ensures c.shape-shape.result c.shape-shape.ensures c.in_err-args.ensures)
 
 pub returns-in_err-subs : goal.returns-in_err-subs
 returns-in_err-subs t c =
     refused t (goal.at.returns-in_err-subs t c).Else-depth-eq0 _ c.from_residual-in_err-subs.ensures
-    (no_args c.args.rows.now c.loop-i.end c.args.depth (omega arith) c.in_ok-statement_at.field-0 c.in_ok-statement_at.ensures c.shape-shape.result c.shape-shape.ensures
+    (no_args c.args.rows.now c.loop-i.end c.args.depth (omega arith) c.in_ok-head_at.field-0 c.in_ok-head_at.ensures c.shape-shape.result c.shape-shape.ensures
     c.in_ok-args.args c.in_ok-args.ensures c.in_err-subs.ensures)
 
 pub returns-in_err-end : goal.returns-in_err-end
 returns-in_err-end t c =
     refused t (goal.at.returns-in_err-end t c).Else-depth-eq0 _ c.from_residual-in_err-end.ensures
-    (by_subs c.args.rows.now c.loop-i.end c.args.depth (omega arith) c.in_ok-statement_at.field-0 c.in_ok-statement_at.ensures c.shape-shape.result c.shape-shape.ensures
+    (by_subs c.args.rows.now c.loop-i.end c.args.depth (omega arith) c.in_ok-head_at.field-0 c.in_ok-head_at.ensures c.shape-shape.result c.shape-shape.ensures
     c.in_ok-args.args c.in_ok-args.ensures c.in_ok-subs.subs None c.in_ok-subs.ensures c.in_err-end.ensures)
 
 pub loop-i-preserved : goal.loop-i-preserved
 loop-i-preserved t c =
     rest_more S c.args.rows.now (λ us. read_s c.args.depth us) c.args.n c.args.at _ _ c.loop-i.invariant (omega arith) c.in_ok-end.end
-    (by_subs c.args.rows.now c.loop-i.end c.args.depth (omega arith) c.in_ok-statement_at.field-0 c.in_ok-statement_at.ensures c.shape-shape.result c.shape-shape.ensures
+    (by_subs c.args.rows.now c.loop-i.end c.args.depth (omega arith) c.in_ok-head_at.field-0 c.in_ok-head_at.ensures c.shape-shape.result c.shape-shape.ensures
     c.in_ok-args.args c.in_ok-args.ensures c.in_ok-subs.subs (Some c.in_ok-end.end) c.in_ok-subs.ensures c.in_ok-end.ensures)
 
 pub returns : goal.returns

@@ -3,11 +3,11 @@ use Rattle.owned.specs.Ends.{HeadAt}
 use Rattle.owned.proofs.Reading.{stands_s_within, there_s}
 use Rattle.owned.proofs.decode.statement_head.Goals as goal
 
-pub statement_at-requires : goal.statement_at-requires
-statement_at-requires c = omega (arith, stands_s_within c.args.rows.now c.args.at c.requires)
+pub head_at-requires : goal.head_at-requires
+head_at-requires c = omega (arith, stands_s_within c.args.rows.now c.args.at c.requires)
 
 pub unwrap-requires : goal.unwrap-requires
-unwrap-requires c = there_s c.args.rows.now c.args.at c.requires c.statement_at.result c.statement_at.ensures
+unwrap-requires c = there_s c.args.rows.now c.args.at c.requires c.head_at.result c.head_at.ensures
 
 pub returns : goal.returns
-returns c = subst (λ o. HeadAt c.args.rows.now c.args.at o) c.unwrap.ensures c.statement_at.ensures
+returns c = subst (λ o. HeadAt c.args.rows.now c.args.at o) c.unwrap.ensures c.head_at.ensures
