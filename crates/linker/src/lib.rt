@@ -11,7 +11,7 @@ ghost use Rattle.owned.specs.VarSets.{bits};
 ghost use Rattle.linker.specs.Code.{released as released_of};
 ghost use Rattle.linker.specs.Links.{code, Held, Room, Enters, MarkedE, PartsMarked, MarkedTo, StandsMarked, LinkedTo, HeaderAt, Noted, StandsP, ProcedureTo, RoomAll, LinkedAll};
 
-use owned::decode::{Expression, Statement, expression_head, statement_head};
+use owned::decode::{Expression, Head, Statement, standing};
 use owned::names::{Kind, Var};
 use owned::procs::Procedure;
 use owned::varset::VarSet;
@@ -39,7 +39,7 @@ fn entry(rows: &[u32], at: usize) -> usize
     ensures near { result < length rows.now }
 {
     let mut place = at;
-    while let Statement::Then = statement_head(rows, place) {
+    while let Statement::Then = standing::<Statement>(rows, place) {
         place += 1;
     }
     place
@@ -93,7 +93,7 @@ impl Linker<'_> {
         ensures marks { MarkedE (code self.old) (code self.new) at result }
         ensures held { Held self.old self.new }
     {
-        match expression_head(self.rows, at) {
+        match standing::<Expression>(self.rows, at) {
             Expression::Binary(_) => {
                 let right = self.mark_expression(at + 1);
                 self.inner[at] = right as u32;
@@ -125,7 +125,7 @@ impl Linker<'_> {
         ensures marks { MarkedTo (code self.old) (code self.new) at result }
         ensures held { Held self.old self.new }
     {
-        let head = statement_head(self.rows, at);
+        let head = standing::<Statement>(self.rows, at);
         let first = self.mark_parts(at, head);
         match head {
             Statement::Then | Statement::If => {
@@ -150,7 +150,7 @@ impl Linker<'_> {
     {
         let first = self.inner[at] as usize;
         let second = self.other[at] as usize;
-        match statement_head(self.rows, at) {
+        match standing::<Statement>(self.rows, at) {
             Statement::Then => {
                 self.link(first, entry(self.rows, second));
                 self.link(second, next);

@@ -14,7 +14,7 @@ use Rattle.owned.specs.Program.{E, S, Sig, Prog}
 use Rattle.owned.specs.Rows.{row_e, row_s}
 use Rattle.owned.specs.Kept.{Full, there, is_num, numbers, keeps}
 use Rattle.owned.specs.Decode.{Hit, Tuple, node_of, node_shape, binary, make_e, head_of, head_shape, Parts, make}
-use Rattle.owned.specs.Ends.{NodeAt, HeadAt, StandsE, StandsS, Placed}
+use Rattle.owned.specs.Ends.{NodeAt, HeadAt, IsReadAt, StandsE, StandsS, Placed}
 use Rattle.owned.specs.Views.{Seen, full_of, Numbered, SaysE, ThereE, KeptTo, SaysS, ThereS}
 use Rattle.owned.proofs.Chains.{row_t}
 use Rattle.owned.proofs.Expressions.{row_make_e, node_complete, ViewE, view_e}
@@ -39,10 +39,6 @@ see_e us vs h k e rest q =
 no_node_there : (ws : List ℕ) (i : ℕ) → NodeAt ws i None → StandsE ws i → ⊥
 no_node_there ws i k (e, rest, h) = let r = (read_e_lem e rest).1 in let q = ap node_of h in let z : ◌≡◌ {A = ℕ} 0 1 = cc in omega arith
 
-pub there_e : (ws : List ℕ) (i : ℕ) → StandsE ws i → (o : Option Expression) → NodeAt ws i o → IsSome o
-there_e ws i t None k = absurd (no_node_there ws i k t)
-there_e ws i t (Some h) k = search rules
-
 numbers_binary : (p : Sig) (o : Operator) (a b : E) → numbers p (binary o a b) ≡ (numbers p a && numbers p b)
 numbers_binary p Add a b = refl
 numbers_binary p Sub a b = refl
@@ -59,6 +55,13 @@ nothing_there ws i us e f = elim (cases_lt i (length ws)) [ inl l ↦ l | inr l 
 
 pub stands_e_within : (ws : List ℕ) (i : ℕ) → StandsE ws i → i < length ws
 stands_e_within ws i (e, rest, h) = nothing_there ws i (row_e e ++ rest) h (λ z. let r = (read_e_lem e rest).1 in let q = ap node_of z in let y : ◌≡◌ {A = ℕ} 0 1 = cc in omega arith)
+
+there_e : (ws : List ℕ) (i : ℕ) → StandsE ws i → (o : Option Expression) → NodeAt ws i o → IsSome o
+there_e ws i t None k = absurd (no_node_there ws i k t)
+there_e ws i t (Some h) k = search rules
+
+pub read_there_e : (ws : List ℕ) (i : ℕ) → StandsE ws i → IsReadAt node_shape node_of ws i
+read_there_e ws i t = (omega (arith, stands_e_within ws i t), there_e ws i t)
 
 module _ (m : Seen) (i : ℕ) where
   pub says_number : (k : ℕ) → NodeAt m.rows i (Some (Number k)) → SaysE m i (Some (i + 2))
@@ -116,12 +119,15 @@ see_s us vs h k s rest e =
 no_head_there : (ws : List ℕ) (i : ℕ) → HeadAt ws i None → StandsS ws i → ⊥
 no_head_there ws i k (s, rest, h) = let r = (read_s_lem s rest).1 in let q = ap head_of h in let z : ◌≡◌ {A = ℕ} 0 1 = cc in omega arith
 
-pub there_s : (ws : List ℕ) (i : ℕ) → StandsS ws i → (o : Option Statement) → HeadAt ws i o → IsSome o
+pub stands_s_within : (ws : List ℕ) (i : ℕ) → StandsS ws i → i < length ws
+stands_s_within ws i (s, rest, h) = nothing_there ws i (row_s s ++ rest) h (λ z. let r = (read_s_lem s rest).1 in let q = ap head_of z in let y : ◌≡◌ {A = ℕ} 0 1 = cc in omega arith)
+
+there_s : (ws : List ℕ) (i : ℕ) → StandsS ws i → (o : Option Statement) → HeadAt ws i o → IsSome o
 there_s ws i t None k = absurd (no_head_there ws i k t)
 there_s ws i t (Some h) k = search rules
 
-pub stands_s_within : (ws : List ℕ) (i : ℕ) → StandsS ws i → i < length ws
-stands_s_within ws i (s, rest, h) = nothing_there ws i (row_s s ++ rest) h (λ z. let r = (read_s_lem s rest).1 in let q = ap head_of z in let y : ◌≡◌ {A = ℕ} 0 1 = cc in omega arith)
+pub read_there_s : (ws : List ℕ) (i : ℕ) → StandsS ws i → IsReadAt head_shape head_of ws i
+read_there_s ws i t = (omega (arith, stands_s_within ws i t), there_s ws i t)
 
 module _ (m : Seen) (i : ℕ) (h : Statement) (is : HeadAt m.rows i (Some h)) where
   -- what holds of the head with any parts holds of every statement there

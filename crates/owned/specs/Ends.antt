@@ -1,5 +1,5 @@
 -- Where in the rows what was decoded ends, as the code says it, and where procedures begin.
-use Rattle.std.specs.Prelude.{◌≡◌, ℕ, ◌+◌, ◌<◌, ◌≤◌, List, [], ◌∷◌, ◌++◌, length, take, drop, Some, None, Option, slice_index}
+use Rattle.std.specs.Prelude.{◌≡◌, ℕ, ◌+◌, ◌<◌, ◌≤◌, List, [], ◌∷◌, ◌++◌, length, take, drop, Some, None, Option, IsSome, slice_index}
 use Rattle.owned.specs.declared.decode.Expression.{Expression}
 use Rattle.owned.specs.declared.decode.Statement.{Statement}
 use Rattle.owned.specs.declared.decode.Shape.{Shape}
@@ -23,6 +23,10 @@ WordUpTo ws i m (Some w) = (i < length ws) × (w ≡ slice_index ws i) × (w ≤
 abbrev pub FitsAt : {H : Type 0} → (H → Shape) → (List ℕ → Hit H) → List ℕ → ℕ → Option H → Type 0
 FitsAt shape of ws i None = of (drop i ws) ≡ None
 FitsAt shape of ws i (Some h) = (of (drop i ws) ≡ Some (h, drop (i + (shape h).words) ws)) × (i + (shape h).words ≤ length ws)
+
+-- the rows go on at a place, and a head is read there
+abbrev pub IsReadAt : {H : Type 0} → (H → Shape) → (List ℕ → Hit H) → List ℕ → ℕ → Type 0
+IsReadAt {H} shape of ws i = (i ≤ length ws) × ((o : Option H) → FitsAt shape of ws i o → IsSome o)
 
 abbrev pub NodeAt : List ℕ → ℕ → Option Expression → Type 0
 NodeAt = FitsAt node_shape node_of

@@ -2,7 +2,7 @@ ghost use Rattle.std.specs.Prelude.{◌≡◌, ℕ, Option, ◌+◌, ◌≤◌, 
 ghost use Rattle.std.specs.List.{list_all};
 ghost use Rattle.owned.specs.declared.decode.Shape.{Shape};
 ghost use Rattle.owned.specs.Decode.{head_of_by, node_by, node_shape, head_by, head_shape, many, read_a, read_e, read_s};
-ghost use Rattle.owned.specs.Ends.{Ended, FitsAt, NodeAt, HeadAt, StandsE, StandsS};
+ghost use Rattle.owned.specs.Ends.{Ended, FitsAt, IsReadAt};
 
 use crate::names::Var;
 
@@ -73,15 +73,19 @@ impl Shape {
 // one value.
 pub trait Head: Copy {
     ghost said_by: { ℕ → ℕ → ℕ → ℕ → Option Self };
+
     ghost shape_of: { Self → Shape };
+
     fn from_words(code: u32, x: u32, y: u32, n: u32) -> Option<Self>
         ensures { result ≡ said_by code x y n };
+
     fn shape(self) -> Shape
         ensures { result ≡ shape_of self };
 }
 
 impl Head for Expression {
     ghost said_by = { λ w x y n. node_by w x };
+
     ghost shape_of = { node_shape };
 
     fn from_words(code: u32, x: u32, _y: u32, _n: u32) -> Option<Expression>
@@ -110,6 +114,7 @@ impl Head for Expression {
 
 impl Head for Statement {
     ghost said_by = { head_by };
+
     ghost shape_of = { head_shape };
 
     fn from_words(code: u32, x: u32, y: u32, n: u32) -> Option<Statement>
@@ -176,20 +181,12 @@ pub fn head_at<H: Head>(rows: &[u32], at: usize) -> Option<H>
     }
 }
 
-// The head of the expression that stands at a place.
-pub fn expression_head(rows: &[u32], at: usize) -> Expression
-    requires { StandsE rows.now at }
-    ensures { NodeAt rows.now at (Some result) }
+// The head that stands at a place.
+pub fn standing<H: Head>(rows: &[u32], at: usize) -> H
+    requires { IsReadAt H.shape_of (head_of_by H.shape_of H.said_by) rows.now at }
+    ensures { FitsAt H.shape_of (head_of_by H.shape_of H.said_by) rows.now at (Some result) }
 {
-    head_at::<Expression>(rows, at).unwrap()
-}
-
-// The head of the statement that stands at a place.
-pub fn statement_head(rows: &[u32], at: usize) -> Statement
-    requires { StandsS rows.now at }
-    ensures { HeadAt rows.now at (Some result) }
-{
-    head_at::<Statement>(rows, at).unwrap()
+    head_at::<H>(rows, at).unwrap()
 }
 
 // Where n expressions end that stand one after the other from a place on, each at most so deep.

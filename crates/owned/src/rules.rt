@@ -6,7 +6,7 @@ ghost use Rattle.owned.specs.Ends.{HeadAt, Placed};
 ghost use Rattle.owned.specs.Views.{seen, full_of, SaysE, ThereE, SaysS, ThereS, allows, leaves, SaysKept, Fine};
 
 use crate::checker::Checker;
-use crate::decode::{Expression, Statement, Transfer, expression_head, statement_head};
+use crate::decode::{Expression, Statement, Transfer, standing};
 use crate::names::{Kind, Var};
 use crate::program::Program;
 use crate::varset::VarSet;
@@ -130,7 +130,7 @@ impl Checker<'_> {
         requires { ThereE (seen self.now) at }
         ensures { SaysE (seen self.now) at result }
     {
-        match expression_head(self.program.rows, at) {
+        match standing::<Expression>(self.program.rows, at) {
             Expression::Number(_) => Some(at + 2),
             Expression::Variable(x) => {
                 if self.is_operand(x) {
@@ -172,7 +172,7 @@ impl Checker<'_> {
         requires { ThereS (seen self.now) at }
         ensures { SaysS (seen self.now) at full result }
     {
-        match statement_head(self.program.rows, at) {
+        match standing::<Statement>(self.program.rows, at) {
             Statement::Skip => Some((full, at + 1)),
             Statement::Then => self.sequence(at, full),
             Statement::Set(x) => self.set(at, x, full),

@@ -1,5 +1,6 @@
 use Rattle.std.proofs.Common.{refl, ◌∙◌, arith}
 use Rattle.linker.specs.Links.{code}
+use Rattle.owned.proofs.Reading.{read_there_s}
 use Rattle.linker.proofs.Changes.{room_of}
 use Rattle.linker.proofs.Linking.{stands, inside_rows, link_leaf, pair_first, pair_other, pair_second, link_pair, branch_there, branch_first, branch_second, link_branch, body_there, loop_body, link_loop}
 use Rattle.linker.proofs.tables.Linker.+link.Goals as goal
@@ -16,8 +17,8 @@ offset_bounds-self-at-2 t c = omega (arith, inside_rows (code c.args.self.now) c
 pub bounds-self-at-2 : goal.bounds-self-at-2
 bounds-self-at-2 t c = omega (arith, inside_rows (code c.args.self.now) c.args.at c.requires.0, c.args.self.now.other_room)
 
-pub statement_head-requires : goal.statement_head-requires
-statement_head-requires t c = stands (code c.args.self.now) c.args.at c.requires.0
+pub standing-requires : goal.standing-requires
+standing-requires t c = read_there_s c.args.self.now.rows.now c.args.at (stands (code c.args.self.now) c.args.at c.requires.0)
 
 -- a pair
 pub entry-requires : goal.entry-requires
@@ -90,6 +91,6 @@ returns-in-While t c =
 pub returns-in_default : goal.returns-in_default
 returns-in_default t c =
     record {
-      links = link_leaf (code c.args.self.now) c.args.at c.args.next c.statement_head.result (omega (arith, inside_rows (code c.args.self.now) c.args.at c.requires.0, c.args.self.now.follow_room)) c.statement_head.ensures c.in_default.not-Then c.in_default.not-If c.in_default.not-While;
+      links = link_leaf (code c.args.self.now) c.args.at c.args.next c.standing.result (omega (arith, inside_rows (code c.args.self.now) c.args.at c.requires.0, c.args.self.now.follow_room)) c.standing.ensures c.in_default.not-Then c.in_default.not-If c.in_default.not-While;
       held = record { follow = refl; inner = refl; other = refl; procs = refl };
     }

@@ -1,10 +1,13 @@
 use Rattle.std.proofs.Common.{length, refl, ap, ◌∙◌, arith}
 use Rattle.linker.specs.Links.{code}
 use Rattle.linker.proofs.Changes.{room_of}
-use Rattle.owned.proofs.Reading.{stands_e_within}
+use Rattle.owned.proofs.Reading.{read_there_e, stands_e_within}
 use Rattle.linker.proofs.Stands.{stands_left}
 use Rattle.linker.proofs.Operands.{mark_alone, there_right, mark_binary}
 use Rattle.linker.proofs.tables.Linker.+mark_expression.Goals as goal
+
+pub standing-requires : goal.standing-requires
+standing-requires t c = read_there_e c.args.self.now.rows.now c.args.at c.requires
 
 pub mark_expression-right-requires : goal.mark_expression-right-requires
 mark_expression-right-requires t c = (
@@ -31,6 +34,6 @@ returns-in-Binary t c =
 pub returns-in_default : goal.returns-in_default
 returns-in_default t c =
     record {
-      marks = mark_alone (code c.args.self.now) c.args.at c.expression_head.result c.in_default.not-Binary c.expression_head.ensures;
+      marks = mark_alone (code c.args.self.now) c.args.at c.standing.result c.in_default.not-Binary c.standing.ensures;
       held = record { follow = refl; inner = refl; other = refl; procs = refl };
     }

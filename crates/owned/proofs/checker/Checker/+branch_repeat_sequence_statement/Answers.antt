@@ -1,6 +1,6 @@
 use Rattle.std.proofs.Common.{sym, subst, arith}
 use Rattle.owned.specs.Views.{seen, SaysS}
-use Rattle.owned.proofs.Reading.{stands_s_within}
+use Rattle.owned.proofs.Reading.{read_there_s, stands_s_within}
 use Rattle.owned.proofs.Keeping.{skips, transfers, no_transfer, drops, no_drop, show_there, no_show, shows, first_there, second_there, no_first, sequence, turn_there, body_there, no_turn, no_body, repeats, changes, test_there, then_there, else_there, no_test, no_then, no_else, joins, differs}
 use Rattle.owned.proofs.checker.Checker.+branch_repeat_sequence_statement.Goals as goal
 
@@ -86,6 +86,9 @@ pub sequence-returns : goal.sequence-returns
 sequence-returns t c = sequence (seen c.args.self.now) c.args.at c.args.full c.requires.1 (c.in_ok-after.after, c.in_ok-after.next) _ c.in_ok-after.ensures c.statement-2.ensures
 
 -- any statement
+pub statement-standing-requires : goal.statement-standing-requires
+statement-standing-requires t c = read_there_s c.args.self.now.program.rows.now c.args.at c.requires.here
+
 pub statement-returns-in-Skip : goal.statement-returns-in-Skip
 statement-returns-in-Skip t c = skips (seen c.args.self.now) c.args.at c.args.full c.in-Skip.ensures
 

@@ -1,7 +1,10 @@
 use Rattle.std.proofs.Common.{sym, subst, arith}
 use Rattle.owned.specs.Views.{seen, SaysE}
-use Rattle.owned.proofs.Reading.{stands_e_within, says_number, says_variable, says_no_variable, there_left, there_right, says_no_left, says_both}
+use Rattle.owned.proofs.Reading.{read_there_e, stands_e_within, says_number, says_variable, says_no_variable, there_left, there_right, says_no_left, says_both}
 use Rattle.owned.proofs.checker.Checker.+numbers.Goals as goal
+
+pub standing-requires : goal.standing-requires
+standing-requires t c = read_there_e c.args.self.now.program.rows.now c.args.at c.requires
 
 pub numbers-requires : goal.numbers-requires
 numbers-requires t c =
