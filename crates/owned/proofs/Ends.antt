@@ -1,8 +1,8 @@
 -- Where decoders end, as the code finds it: one after the other, n in a loop, and by a head and its shape.
 -- `Ended` ties a decoder's answer to a place in the rows; each lemma is one step of the code.
 use Rattle.std.proofs.Common.{◌≡◌, ℕ, zero, suc, ◌+◌, ◌-◌, ◌*◌, ◌/◌, ◌<◌, ◌≤◌, Bool, true, false, ◌&&◌, leb, ltb, List, length, get_or, take, drop, Some, None, Option, sym, refl, ap, ◌∙◌, subst, inl, inr, add-one, arith}
-use Rattle.std.proofs.lemmas.List.{length-drop, length-take-le, get_or-drop, drop-drop, at_drop_more, at_drop_all}
-use Rattle.std.proofs.lemmas.Bool.{cases_lt, and_parts, le-leb, lt-leb, lt-ltb, le-ltb, leb-true, leb-false, ltb-true, ltb-false}
+use Rattle.std.proofs.lemmas.List.{length-drop, length-take-le, at_drop_more, at_drop_all}
+use Rattle.std.proofs.lemmas.Bool.{cases_lt, and_parts, lt-ltb, le-ltb, leb-true, leb-false, ltb-true, ltb-false}
 use Rattle.std.proofs.Math.Seq.{drop-cons}
 use Rattle.std.specs.List.{list_all, slice_range}
 use Rattle.std.specs.Simd.{first_chunks}
@@ -10,8 +10,8 @@ use Rattle.owned.specs.declared.decode.Expression.{Expression}
 use Rattle.owned.specs.declared.decode.Statement.{Statement}
 use Rattle.owned.specs.declared.decode.Shape.{Shape}
 use Rattle.owned.specs.Program.{Arg}
-use Rattle.owned.specs.Decode.{Hit, chain, guard, Tuple, many, fits, word, below1, read_a, node_by, node_shape, node_of, make_e, read_e, head_by, head_shape, head_of, make, parts, read_s}
-use Rattle.owned.specs.Ends.{Ended, FitsAt, NodeAt, HeadAt}
+use Rattle.owned.specs.Decode.{Hit, chain, Tuple, many, word, below1, read_a, node_shape, node_of, make_e, read_e, head_shape, head_of, make, parts, read_s}
+use Rattle.owned.specs.Ends.{Ended, NodeAt, HeadAt}
 
 -- one after the other
 pub chain_none : {A B : Type 0} (ws : List ℕ) (r : Hit A) (k : A → List ℕ → Hit B) → Ended ws r None → Ended ws (chain r k) None
@@ -200,35 +200,6 @@ module _ (ws : List ℕ) where
 
       pub args_big : false ≡ list_all (λ w. ltb (get_or w 1 0) 2) vs → Ended ws (many read_a n (drop i ws)) None
       args_big h = many_unlike Arg ws read_a 2 marked marked_end marked_big i n l (sym (h ∙ ap (λ ks. list_all (λ w. ltb (get_or w 1 0) 2) ks) cuts ∙ same_marks i n l))
-
--- the head at a place, by its words
-module _ {H : Type 0} (shape : H → Shape) (of : List ℕ → Hit H) (ws : List ℕ) (i : ℕ) (o : Option H) (e : of (drop i ws) ≡ fits shape (drop i ws) o) where
-  pub fits_none : o ≡ None → FitsAt shape of ws i None
-  fits_none z = e ∙ ap (λ p. fits shape (drop i ws) p) z
-
-  module _ (h : H) (z : o ≡ Some h) (sh : Shape) (is : sh ≡ shape h) where
-    pub fits_there : i ≤ length ws → sh.words ≤ length ws - i → FitsAt shape of ws i (Some h)
-    fits_there l k =
-        let f : (shape h).words ≤ length ws - i = subst (λ (s : Shape). s.words ≤ length ws - i) is k in
-        let t : leb (shape h).words (length (drop i ws)) ≡ true = le-leb _ _ (rw (length-drop i ws) f) in
-        (e ∙ ap (λ p. fits shape (drop i ws) p) z ∙ ap (λ p. guard p (Some (h, drop (shape h).words (drop i ws)))) t ∙ ap (λ us. Some (h, us)) (drop-drop (shape h).words i ws), omega arith)
-
-    pub fits_short : length ws - i < sh.words → FitsAt shape of ws i None
-    fits_short k =
-        let f : length ws - i < (shape h).words = subst (λ (s : Shape). length ws - i < s.words) is k in
-        let t : leb (shape h).words (length (drop i ws)) ≡ false = lt-leb _ _ (rw (length-drop i ws) f) in
-        e ∙ ap (λ p. fits shape (drop i ws) p) z ∙ ap (λ p. guard p (Some (h, drop (shape h).words (drop i ws)))) t
-
-module _ (ws : List ℕ) (i : ℕ) where
-  pub node_words : (o : Option Expression) (w x : ℕ) → o ≡ node_by w x → w ≡ get_or ws i 0 → x ≡ get_or ws (i + 1) 0 → node_of (drop i ws) ≡ fits node_shape (drop i ws) o
-  node_words o w x e a b =
-      let z : i + 0 ≡ i = omega arith in
-      ap (λ p. fits node_shape (drop i ws) p) (rw (get_or-drop i ws 0 0, get_or-drop i ws 1 0, z) (rw (← a, ← b) (sym e)))
-
-  pub head_words : (o : Option Statement) (w x y m : ℕ) → o ≡ head_by w x y m → w ≡ get_or ws i 0 → x ≡ get_or ws (i + 1) 0 → y ≡ get_or ws (i + 2) 0 → m ≡ get_or ws (i + 3) 0 → head_of (drop i ws) ≡ fits head_shape (drop i ws) o
-  head_words o w x y m e a b c d =
-      let z : i + 0 ≡ i = omega arith in
-      ap (λ p. fits head_shape (drop i ws) p) (rw (get_or-drop i ws 0 0, get_or-drop i ws 1 0, get_or-drop i ws 2 0, get_or-drop i ws 3 0, z) (rw (← a, ← b, ← c, ← d) (sym e)))
 
 -- expressions
 pub no_fuel_e : (ws us : List ℕ) (d : ℕ) → d ≡ 0 → Ended ws (read_e d us) None
