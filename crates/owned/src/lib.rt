@@ -37,8 +37,11 @@ impl fmt::Display for Judged {
     }
 }
 
+// Work words with which every program can be judged.
+pub const WORK_WORDS: usize = 8192 + 4 * (MAX_WORDS + 1);
+
 // Whether there are enough work words: 8,192, and 4 for each word of the program.
-fn enough(words: usize, work: usize) -> bool
+pub fn enough(words: usize, work: usize) -> bool
     ensures { result ≡ nat_le (8192 + 4 * words) work }
 {
     work >= 8192 && (work - 8192) / 4 >= words
