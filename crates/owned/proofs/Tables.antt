@@ -1,7 +1,7 @@
 -- The table of procedures: those up to a place are read and their places stand in the table, one more with each turn.
 -- What is left of the rows is read by what is left of the limit, so that at the end the whole is read.
 use Rattle.std.proofs.Common.{◌≡◌, ℕ, zero, suc, ◌+◌, ◌-◌, ◌<◌, ◌≤◌, T, List, [], ◌∷◌, ◌++◌, length, take, drop, set, Some, None, Option, sym, refl, ap, ◌∙◌, subst, append_assoc, append-nil, arith}
-use Rattle.std.proofs.lemmas.List.{drop_all, length-append, length-drop, take_more_set}
+use Rattle.std.proofs.lemmas.List.{drop_all, length-append, length-drop, take_more_set, take-append-le}
 use Rattle.owned.specs.Program.{Proc, Prog}
 use Rattle.owned.specs.Rows.{row_p, ok_p}
 use Rattle.owned.specs.Decode.{Hit, read_p, read_ps, before, onto}
@@ -61,6 +61,17 @@ filled_begin ws ts = record { within = omega arith; few = omega arith; g = []; m
     onto_none : (r : Option Prog) → r ≡ onto_all [] r
     onto_none None = refl
     onto_none (Some h) = refl
+
+-- words past the first n of the table make no difference
+pub filled_before : (ws ts us : List ℕ) (i n : ℕ) → n ≤ length ts → Filled ws ts i n → Filled ws (ts ++ us) i n
+filled_before ws ts us i n l f = record {
+  within = f.within;
+  few = f.few;
+  g = f.g;
+  many = f.many;
+  placed = subst (λ vs. Placed ws vs f.g) (sym (take-append-le n ts us l)) f.placed;
+  left = f.left;
+}
 
 module _ (ws ts : List ℕ) (i n : ℕ) (f : Filled ws ts i n) where
   pub filled_end : length ws ≤ i → Whole ws ts n

@@ -85,17 +85,18 @@ pub(crate) fn procedures(rows: &[u32], starts: &mut [u32]) -> Option<usize>
     ensures { Tabled rows.now starts.new result }
 {
     let mut at = 0;
-    let mut n = 0;
-    // Where the next begins is known only once this one is read: there is nothing to iterate over.
-    while at < rows.len() {
-        if n == MAX_PROCEDURES {
-            return None;
+    for (n, start) in starts[..MAX_PROCEDURES].iter_mut().enumerate() {
+        if at == rows.len() {
+            return Some(n);
         }
-        starts[n] = at as u32;
+        *start = at as u32;
         at = procedure_end(rows, at)?;
-        n += 1;
     }
-    Some(n)
+    if at == rows.len() {
+        Some(MAX_PROCEDURES)
+    } else {
+        None
+    }
 }
 
 // A procedure in the rows: its signature, and where its body begins.
