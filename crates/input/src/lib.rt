@@ -260,8 +260,7 @@ impl Numbers {
 
 // The numbers of a text that is there as a whole.
 pub fn parse_numbers(heap: Global, text: &[u8], most: usize) -> anyhow::Result<Vec<u32>>
-    ensures numbers { IfOk result (λ v. Parsed most text.now v.items) }
-    ensures few { IfOk result (λ v. vec_len v ≤ most + 1) }
+    ensures { IfOk result (λ v. Parsed most text.now v.items) }
 {
     let mut found = Numbers::new(heap, most);
     found.take(text)?;

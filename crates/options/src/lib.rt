@@ -114,6 +114,7 @@ impl<'a> From<&'a str> for Word {
 }
 
 // A number with one digit more, as far as 64 bits count.
+// It saturates, so that a number that is too large is told from a word that is none.
 fn grow(value: Option<u64>, byte: u8) -> Option<u64>
     ensures { result ≡ grown value byte }
 {
