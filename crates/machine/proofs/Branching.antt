@@ -115,8 +115,8 @@ module _ {c : Control} {m : Memory} where
         let t = ev p s v.0 k.0 k.1 in
         test_more (value s v.0) k.0 _ _ k.1.value (λ q. z (t ∙ q)) ∙ turn_off s.left s _ (sym h.rep.state.turns ∙ l)
 
-    pub while_on : (w ≡ 0 → ⊥) → 0 < c.turns → Stepped (E × S) while_s c m (go_to (with_turns c (c.turns - 1)) (get_or c.code.inner c.pos 0)) m (Ok tt)
-    while_on z l g d p v ss s fs h =
+    pub while_on : {l : ℕ} → (w ≡ 0 → ⊥) → l + 1 ≡ c.turns → Stepped (E × S) while_s c m (go_to (with_turns c l) (get_or c.code.inner c.pos 0)) m (Ok tt)
+    while_on {l} z e g d p v ss s fs h =
         let k = while_value h in
         let t = ev p s v.0 k.0 k.1 in
         let n = h.rep.pends in
@@ -126,9 +126,9 @@ module _ {c : Control} {m : Memory} where
           d = d;
           p = p;
           todo = push v.1 (S.while v.0 v.1 ∷ ss);
-          s = with_left s (c.turns - 1);
+          s = with_left s l;
           fs = fs;
-          is = test_more (value s v.0) k.0 _ _ k.1.value (λ q. z (t ∙ q)) ∙ turn_on s.left s _ (c.turns - 1) (omega (arith, r.turns));
+          is = test_more (value s v.0) k.0 _ _ k.1.value (λ q. z (t ∙ q)) ∙ turn_on s.left s _ l (omega (arith, e, r.turns));
           rep = record {
             state = record { kinds = r.kinds; few = r.few; vars = r.vars; long = r.long; cells = r.cells; shown = r.shown; turns = refl };
             pends = rw n.1.1.enters (entered_pends c.code v.1 _ c.pos (S.while v.0 v.1 ∷ ss) n.1.2 n);
