@@ -1,11 +1,11 @@
 -- A run from its start: the first procedure is entered, and as many steps as the definition's machine takes are enough.
-use Rattle.std.proofs.Common.{◌≡◌, ℕ, zero, suc, ◌+◌, ◌-◌, ◌<◌, ◌≤◌, true, leb, [], ◌∷◌, length, get_or, replicate, Some, None, Err, Option, Result, sym, refl, ap, ◌∙◌, subst, arith}
+use Rattle.std.proofs.Common.{◌≡◌, ℕ, zero, suc, ◌+◌, ◌-◌, ◌<◌, ◌≤◌, true, leb, [], ◌∷◌, length, get_or, Some, None, Err, Option, Result, sym, refl, ap, ◌∙◌, subst, arith}
 use Rattle.std.specs.List.{slice_get}
 use Rattle.std.proofs.lemmas.Bool.{and_parts, leb-true}
 use Rattle.owned.specs.Program.{Proc, Prog}
 use Rattle.owned.specs.Kept.{kept}
 use Rattle.owned.specs.Rows.{ok_sig, ok_p, ok_ps}
-use Rattle.owned.specs.Runs.{free, fault, spent, deep, first_free, with_left, opening, at_start, run}
+use Rattle.owned.specs.Runs.{fault, spent, deep, first_free, with_left, opening, at_start, run}
 use Rattle.owned.specs.Machine.{Mach, going, stopped, push, turn_m, enter_m, call_m, step, steps, start}
 use Rattle.linker.specs.Code.{ProcAt}
 use Rattle.owned.specs.Values
