@@ -109,7 +109,9 @@ fn compare_held(
         return Some(Difference::Caller);
     }
     let used = run.boxes.count();
-    if owners.count() != used || free_cells(machine) != (machine.cells.free.cells as usize).checked_sub(used) {
+    if owners.count() != used
+        || free_cells(machine) != (machine.cells.free.cells as usize).checked_sub(used)
+    {
         return Some(Difference::Cells);
     }
     None
