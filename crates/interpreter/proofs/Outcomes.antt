@@ -1,10 +1,9 @@
 -- `go`: the memory that it cuts is where a run may start, and what the machine says is what the run came to.
-use Rattle.std.proofs.Common.{◌≡◌, ℕ, suc, ◌+◌, ◌*◌, ◌^◌, ◌<◌, ◌≤◌, Bool, true, false, leb, List, length, get_or, replicate, Ok, Err, Result, sym, refl, ap, ◌∙◌, subst, inl, inr, arith, leb→le, length-take}
+use Rattle.std.proofs.Common.{◌≡◌, ℕ, suc, ◌+◌, ◌*◌, ◌^◌, ◌<◌, ◌≤◌, Bool, true, false, List, length, get_or, replicate, Ok, Err, Result, sym, refl, ap, ◌∙◌, subst, inl, inr, arith, length-take}
 use Rattle.std.proofs.lemmas.List.{length-replicate, get_or-replicate, get_or_past}
 use Rattle.std.proofs.lemmas.Bool.{cases_lt}
 use Rattle.owned.specs.Runs.{Val, free, holds, run}
 use Rattle.owned.specs.FreeList.{FreeList}
-use Rattle.owned.proofs.Chains.{T_and}
 use Rattle.owned.proofs.TypingRules.{rows_ok}
 use Rattle.owned.proofs.Stops.{machine_runs}
 use Rattle.owned.proofs.Safety.{nothing_left}
@@ -18,10 +17,6 @@ use Rattle.linker.specs.Links.{LinkedAll}
 use Rattle.machine.specs.Running.{Starts, Came}
 use Rattle.interpreter.specs.Going.{CanGo, Went, ended}
 use Rattle.machine.proofs.Words.{not_holds}
-
--- the rows are not too many
-pub few_words : {s : List ℕ} {c d w : ℕ} → CanGo s c d w → length s ≤ 16384
-few_words {s} h = leb→le (length s) 16384 (T_and (leb (length s) 16384) _ h.rows.fine).0
 
 -- free cells hold nothing
 no_content : (n a b : ℕ) (v : Val) {A : Type 0} → get_or (replicate n free) a free ≡ holds b v → A

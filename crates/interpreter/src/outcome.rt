@@ -86,7 +86,7 @@ fn ending(outcome: Result<u32, Halt>, over: bool, count: usize, turns: u64) -> R
     }
 }
 
-// Runs a program that keeps the rules.
+// Runs a program that keeps the rules. All that the machine has is cut out of the work words: there is no heap.
 fn run_kept<O: Observer>(
     program: &[u32],
     limits: Limits,
@@ -143,7 +143,8 @@ fn enough(words: usize, limits: Limits, work: usize) -> bool
     work >= run && (work - run) / 4 >= words
 }
 
-// Runs a program that keeps the rules, on so many cells, with so many calls open at once and so many turns.
+// Runs a program that keeps the rules, on so many cells, with so many calls open at once and so many turns. The limits
+// are single parameters, as the project's interface has them.
 pub fn go(
     program: &[u32],
     cells: u32,

@@ -12,7 +12,7 @@ use Rattle.machine.specs.declared.machine.Progress.TheVariants as progress
 use Rattle.machine.specs.Memory.{Control, Memory}
 use Rattle.machine.specs.Represents.{Means, Shows, Frames}
 use Rattle.machine.specs.Operations.{NoFault}
-use Rattle.machine.specs.Steps.{Ready, CanStep, Stepped, Kept, any_s}
+use Rattle.machine.specs.Steps.{Ready, CanStep, Stepped, any_s}
 use Rattle.machine.specs.Calls.{Closes, CanClose, ClosedTo, Closed, CanLeave, Left}
 use Rattle.machine.specs.Running.{Steps, CanAdvance, Done, Advanced}
 use Rattle.machine.proofs.Words.{get_value}
@@ -41,10 +41,6 @@ module _ {c : Control} {m : Memory} where
         go (a ∷ ss) h =
             let r : Ready w.prog c m w.depth w.sig a ss w.state w.callers = record { rep = h.rep; well = h.well } in
             record { prog = w.prog; depth = w.depth; sig = w.sig; parts = a; rest = ss; state = w.state; callers = w.callers; ready = r; here = l; room = (standing r).room }
-
-    pub executed_on : {c₁ : Control} {m₁ : Memory} (q : ℕ) → Stepped S any_s c m c₁ m₁ (Ok tt) → Advanced c m c₁ m₁ (Ok (progress.Going q))
-    executed_on q st g d p [] s fs h = absurd (omega (arith, l, h.rep.pends))
-    executed_on q st g d p (a ∷ ss) s fs h = st g d p a ss s fs (record { rep = h.rep; well = h.well })
 
     pub executed_halt : (c₁ : Control) (m₁ : Memory) (f : Halt) → Stepped S any_s c m c₁ m₁ (Err f) → Advanced c m c₁ m₁ (Err f)
     executed_halt c₁ m₁ f st g d p [] s fs h = absurd (omega (arith, l, h.rep.pends))
@@ -122,6 +118,3 @@ module _ {c : Control} {m : Memory} where
                   (subst (λ (z : Control). Shows z.output b.to.end.shown) (sym e.here) (subst (Shows c.output) (sym b.to.shown) y.shown))
                   (ap (λ (z : Control). z.turns) e.here ∙ y.turns ∙ sym b.to.left),
             )
-
-        pub finished_kept : Kept c c₁
-        finished_kept = subst (λ (z : Control). Kept c z) (sym e.here) (record { out = refl; long = refl; more = omega arith; past = refl })

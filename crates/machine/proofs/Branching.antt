@@ -1,5 +1,5 @@
 -- Going on in the program: past a statement, and to a part of an `if` or a `while`.
-use Rattle.std.proofs.Common.{◌≡◌, ℕ, suc, ◌+◌, ◌-◌, ◌<◌, cond, eqb, List, ◌∷◌, ◌++◌, length, get_or, drop, Ok, Err, sym, refl, ap, ◌∙◌, arith}
+use Rattle.std.proofs.Common.{◌≡◌, ℕ, suc, ◌+◌, ◌<◌, cond, eqb, List, ◌∷◌, ◌++◌, length, get_or, Ok, Err, sym, refl, ap, ◌∙◌, arith}
 use Rattle.std.proofs.lemmas.Bool.{eq-eqb, ne_eqb}
 use Rattle.owned.specs.Program.{E, S, Sig, Prog}
 use Rattle.owned.specs.Rows.{row_s}
@@ -8,16 +8,12 @@ use Rattle.owned.specs.Machine.{Frame, Mach, going, stopped, push, num_m, turn_m
 use Rattle.owned.specs.Strict.{strict_s}
 use Rattle.linker.specs.Code.{Here, Pends}
 use Rattle.machine.specs.declared.machine.Halt.TheVariants.{Spent}
-use Rattle.machine.specs.Memory.{Numbers, Control, Memory, go_to, with_turns}
+use Rattle.machine.specs.Memory.{Control, Memory, go_to, with_turns}
 use Rattle.machine.specs.Represents.{State, Context, Represents}
 use Rattle.machine.specs.Operations.{Evaluates, CanEvaluate, Evaluated}
-use Rattle.machine.specs.Steps.{Going, Ready, CanStep, Stepped, Kept, if_s, while_s}
+use Rattle.machine.specs.Steps.{Going, Ready, CanStep, Stepped, if_s, while_s}
 use Rattle.machine.proofs.Evaluating.{can}
 use Rattle.machine.proofs.Pending.{entered_pends, push_singles, stands, first_word, expr_next}
-
--- the numbers shown are the same
-pub kept_same : {c c₁ : Control} → c₁.output ≡ c.output → Kept c c₁
-kept_same {c} {c₁} e = record { out = ap (λ (o : Numbers). o.out) e; long = ap (λ (o : Numbers). length o.shown) e; more = omega (arith, ap (λ (o : Numbers). o.count) e); past = ap (λ (o : Numbers). drop c₁.output.count o.shown) e }
 
 -- the machine at another place, the rest as it is
 pub moved : {c : Control} {m : Memory} {p : Sig} {s : St} (q : ℕ) → State c m p s → State (go_to c q) m p s
@@ -67,9 +63,6 @@ module _ {c : Control} {m : Memory} where
   pub if_can : CanStep (E × S × S) if_s c m → CanEvaluate c m (c.pos + 1)
   if_can h = can c m (c.pos + 1) (if_value h.ready).1
 
-  pub if_tables : CanStep (E × S × S) if_s c m → (c.pos < length c.code.inner) × (c.pos < length c.code.other)
-  if_tables h = let t = h.ready.rep.pends.1 in (t.1.room, t.2.room)
-
   -- on to a part of the `if`
   part_on : {g : Prog} {d : ℕ} {p : Sig} {v : E × S × S} {ss : List S} {s : St} {fs : List Frame} (h : Ready g c m d p (if_s v) ss s fs) (q : ℕ) (a : S) → Pends c.code q (push a ss) → strict_s first_free g d p (if_s v) ss s fs ≡ going d p (push a ss) s fs → Going g (go_to c q) m (strict_s first_free g d p (if_s v) ss s fs)
   part_on {d = d} {p = p} {ss = ss} {s = s} {fs = fs} h q a pd i = record { d = d; p = p; todo = push a ss; s = s; fs = fs; is = i; rep = record { state = moved q h.rep.state; pends = pd; singles = push_singles a ss h.rep.singles.1; row = h.rep.row; context = moved_context q h.rep.context } }
@@ -99,9 +92,6 @@ module _ {c : Control} {m : Memory} where
   pub while_can : CanStep (E × S) while_s c m → CanEvaluate c m (c.pos + 1)
   while_can h = can c m (c.pos + 1) (while_value h.ready).1
 
-  pub while_table : CanStep (E × S) while_s c m → c.pos < length c.code.inner
-  while_table h = h.ready.rep.pends.1.1.room
-
   module _ {w : ℕ} (ev : Evaluated c m (c.pos + 1) w) where
     pub while_off : {c₁ : Control} {m₁ : Memory} → w ≡ 0 → c₁ ≡ go_to c (get_or c.code.follow c.pos 0) → m₁ ≡ m → Stepped (E × S) while_s c m c₁ m₁ (Ok tt)
     while_off z e₁ f g d p v ss s fs h =
@@ -115,8 +105,8 @@ module _ {c : Control} {m : Memory} where
         let t = ev p s v.0 k.0 k.1 in
         test_more (value s v.0) k.0 _ _ k.1.value (λ q. z (t ∙ q)) ∙ turn_off s.left s _ (sym h.rep.state.turns ∙ l)
 
-    pub while_on : (w ≡ 0 → ⊥) → 0 < c.turns → Stepped (E × S) while_s c m (go_to (with_turns c (c.turns - 1)) (get_or c.code.inner c.pos 0)) m (Ok tt)
-    while_on z l g d p v ss s fs h =
+    pub while_on : {l : ℕ} → (w ≡ 0 → ⊥) → l + 1 ≡ c.turns → Stepped (E × S) while_s c m (go_to (with_turns c l) (get_or c.code.inner c.pos 0)) m (Ok tt)
+    while_on {l} z e g d p v ss s fs h =
         let k = while_value h in
         let t = ev p s v.0 k.0 k.1 in
         let n = h.rep.pends in
@@ -126,9 +116,9 @@ module _ {c : Control} {m : Memory} where
           d = d;
           p = p;
           todo = push v.1 (S.while v.0 v.1 ∷ ss);
-          s = with_left s (c.turns - 1);
+          s = with_left s l;
           fs = fs;
-          is = test_more (value s v.0) k.0 _ _ k.1.value (λ q. z (t ∙ q)) ∙ turn_on s.left s _ (c.turns - 1) (omega (arith, r.turns));
+          is = test_more (value s v.0) k.0 _ _ k.1.value (λ q. z (t ∙ q)) ∙ turn_on s.left s _ l (omega (arith, e, r.turns));
           rep = record {
             state = record { kinds = r.kinds; few = r.few; vars = r.vars; long = r.long; cells = r.cells; shown = r.shown; turns = refl };
             pends = rw n.1.1.enters (entered_pends c.code v.1 _ c.pos (S.while v.0 v.1 ∷ ss) n.1.2 n);

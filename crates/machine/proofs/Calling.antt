@@ -7,17 +7,17 @@ use Rattle.owned.specs.Rows.{row_as}
 use Rattle.owned.specs.Runs.{first_free, Val, St, fault, spent, deep, Took, took, missing, more, onto, with_left, opening}
 use Rattle.owned.specs.Machine.{Frame, Mach, going, stopped, push, turn_m, hand_m, enter_m}
 use Rattle.linker.specs.Code.{ProcAt}
-use Rattle.machine.specs.declared.machine.Halt.TheVariants.{Spent, Deep}
+use Rattle.machine.specs.declared.machine.Halt.TheVariants.{Spent}
 use Rattle.machine.specs.Memory.{Control, Memory, with_turns, entered}
 use Rattle.machine.specs.Represents.{Vars, Heap, Shows, State, FrameAt, Frames, Represents}
 use Rattle.owned.specs.Strict.{pass_one, pass, enters, strict_s}
-use Rattle.machine.specs.Steps.{Going, Ready, CanStep, Stepped, Kept, call_s}
+use Rattle.machine.specs.Steps.{Going, Ready, CanStep, Stepped, call_s}
 use Rattle.machine.specs.Calls.{Passes, CanPass, Passed, suspended, Blanked, Opened}
 use Rattle.machine.proofs.Words.{word_in, vars_same}
 use Rattle.machine.proofs.Variables.{not_took}
 use Rattle.machine.proofs.Evaluating.{drop_past}
 use Rattle.machine.proofs.Pending.{entered_pends, push_singles}
-use Rattle.machine.proofs.Branching.{standing, turn_off, turn_on, kept_same}
+use Rattle.machine.proofs.Branching.{standing, turn_off, turn_on}
 use Rattle.machine.proofs.Opening.{opened_vars, opened_long}
 use Rattle.machine.proofs.Callers.{frames_same, noted_long, noted_other, noted_first, noted_second, noted_third}
 
@@ -202,9 +202,6 @@ module _ (g : Prog) (c : Control) (m : Memory) (d : ℕ) (p : Sig) (x f : ℕ) (
 
 -- the same, by what each part of the code says
 module _ {c : Control} {m : Memory} (x f : ℕ) {at : ℕ} (ea : at ≡ c.pos) {many : ℕ} (em : many ≡ get_or c.code.rows (c.pos + 3) 0) where
-  pub call_deep : c.depth ≡ 0 → Stepped (List Arg) (call_s x f) c m c m (Err Deep)
-  call_deep z g d p v ss s fs h = too_deep g c m d p x f v ss s fs h z
-
   module _ (nz : c.depth ≡ 0 → ⊥) (size : c.size ≡ length m.frames) where
     passes : {g : Prog} {d : ℕ} {p : Sig} {v : List Arg} {ss : List S} {s : St} {fs : List Frame} (h : Ready g c m d p (call_s x f v) ss s fs) → Passes c m (at + 4) many p s v (handed g c m d p x f v ss s fs h).vs (handed g c m d p x f v ss s fs h).t
     passes {g} {d} {p} {v} {ss} {s} {fs} h = rw (ea, em) (call_passes g c m d p x f v ss s fs h)
@@ -218,9 +215,6 @@ module _ {c : Control} {m : Memory} (x f : ℕ) {at : ℕ} (ea : at ≡ c.pos) {
 
       pub call_spent : c₁.turns ≡ 0 → Stepped (List Arg) (call_s x f) c m c₁ m₁ (Err Spent)
       call_spent z g d p v ss s fs h = no_turns g c m d p x f v ss s fs h nz (got h) (rw q.here at z)
-
-      pub call_suspend : CanStep (List Arg) (call_s x f) c m → (at ≡ c₁.pos) × (c₁.base + 40 ≤ length m₁.frames) × (c₁.pos < length c₁.code.follow)
-      call_suspend k = rw q.here (ea, omega (arith, two_frames k.prog c m k.depth k.sig x f k.parts k.rest k.state k.callers k.ready nz, size, q.long), k.room)
 
       module _ {c₂ : Control} {m₂ : Memory} (e₂ : c₂ ≡ with_turns c₁ (c₁.turns - 1)) (f₂ : m₂ ≡ suspended c₁ m₁ x) where
         here₂ : c₂ ≡ with_turns c (c.turns - 1)
@@ -239,6 +233,3 @@ module _ {c : Control} {m : Memory} (x f : ℕ) {at : ℕ} (ea : at ≡ c.pos) {
             let o₁ : Opened (with_turns c (c.turns - 1)) (suspended c m₁ x) f many c₃ m₃ = rw (here₂, mem₂) at o in
             let b : Blanked (c.base + 40) (get_or c.code.rows (c.pos + 3) 0) (get_or c.code.procs (8 * f + 1) 0) (suspended c m₁ x) m₃ = rw em at o₁.blank in
             rw o₁.here (call_going g c m d p x f v ss s fs h nz (got h) (rw q.here at below) (size ∙ sym q.long) (rw q.here at nt) b)
-
-        pub call_kept : {c₃ : Control} {m₃ : Memory} → Opened c₂ m₂ f many c₃ m₃ → Kept c c₃
-        call_kept o = let e = o.here in kept_same (ap (λ (z : Control). z.output) e ∙ ap (λ (z : Control). z.output) here₂)

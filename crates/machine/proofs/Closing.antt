@@ -119,9 +119,6 @@ module _ {c : Control} {m : Memory} {many : ℕ} (em : many ≡ get_or c.code.pr
   is_many : {p : Sig} {s : St} {r : R} → Closes c m p s r → many ≡ length p.kinds
   is_many k = em ∙ k.row.1.many
 
-  pub close_start : {mask : ℕ} → mask ≡ get_or c.code.procs (8 * c.procedure + 4) 0 → CloseSofar c m c m 0 mask
-  close_start ek = record { here = refl; frames = refl; rest = λ p s r k. record { mid = s; heap = k.state.cells; closes = k.closes; shown = refl; left = refl; later = λ y q. refl; bits = rw ek (ap (λ i. bits i (get_or c.code.procs (8 * c.procedure + 4) 0)) (omega arith) ∙ k.row.1.release); within = omega arith } }
-
   module _ {c₁ : Control} {m₁ : Memory} {x mask : ℕ} (h : CloseSofar c m c₁ m₁ x mask) where
     pub close_end : (many ≤ x) ⊎ (mask ≡ 0) → Closed c m c₁ m₁
     close_end z = record { here = h.here; frames = h.frames; end = λ p s r k. go p s r k z }
@@ -152,9 +149,6 @@ module _ {c : Control} {m : Memory} {many : ℕ} (em : many ≡ get_or c.code.pr
 
         pub close_kind : CanClose c m → c₁.kinds + x < length c₁.code.rows
         close_kind k = rw h.here (kinded k.closes).0
-
-        pub close_var : CanClose c m → c₁.base + x < length m₁.frames
-        close_var k = rw (h.here, h.frames) (var k.closes).0
 
         module _ {kd w : ℕ} (ek : kd ≡ get_or c₁.code.rows (c₁.kinds + x) 0) (ew : w ≡ get_or m₁.frames (c₁.base + x) 0) where
           releases : {p : Sig} {s : St} {r : R} (k : Closes c m p s r) → Releases m₁.store kd w (marked k).old (h.rest p s r k).mid.cells (marked k).left

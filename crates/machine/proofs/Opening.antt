@@ -1,12 +1,10 @@
 -- A procedure's frame as it begins: the arguments, the other variables 0.
-use Rattle.std.proofs.Common.{◌≡◌, ℕ, zero, suc, ◌+◌, ◌-◌, ◌*◌, ◌<◌, ◌≤◌, Bool, true, false, cond, eqb, ◌⊎◌, List, [], ◌∷◌, ◌++◌, length, get_or, take, drop, set, refl, ap, ◌∙◌, subst, inl, inr, arith, length-append, length-drop, length-set}
-use lib.Seq.{take-set-le}
-use Rattle.std.proofs.lemmas.List.{get_or-set_same, get_or-set_other, get_or_append_left, get_or-append_right}
-use Rattle.std.proofs.lemmas.Bool.{cases_eq}
+use Rattle.std.proofs.Common.{◌≡◌, ℕ, zero, suc, ◌+◌, ◌-◌, ◌*◌, ◌<◌, ◌≤◌, Bool, true, false, cond, eqb, ◌⊎◌, List, [], ◌∷◌, ◌++◌, length, get_or, take, drop, refl, ap, inl, inr, arith, length-append, length-drop}
+use Rattle.std.proofs.lemmas.List.{get_or_append_left, get_or-append_right}
 use Rattle.owned.specs.Runs.{Val, n, nothing, blank}
-use Rattle.machine.specs.Memory.{Control, Memory, with_frames, entered}
+use Rattle.machine.specs.Memory.{Control, Memory, entered}
 use Rattle.machine.specs.Represents.{Means, Vars}
-use Rattle.machine.specs.Calls.{Blanked, Opened}
+use Rattle.machine.specs.Calls.{Blanked}
 
 -- the words G are those of F, but for those from b + n on, which are 0 up to b + k; and maybe those between b and b + n
 pub record Zeroed (b n k : ℕ) (F G : List ℕ) : Type 0 where
@@ -15,30 +13,9 @@ pub record Zeroed (b n k : ℕ) (F G : List ℕ) : Type 0 where
   pub kept : (i : ℕ) → i < n → get_or G (b + i) 0 ≡ get_or F (b + i) 0
   pub zeros : (i : ℕ) → n ≤ i → i < k → get_or G (b + i) 0 ≡ 0
 
-pub zeroed_none : {b n : ℕ} {F : List ℕ} → Zeroed b n n F F
-zeroed_none = record { long = refl; below = refl; kept = λ i l. refl; zeros = λ i l h. absurd (omega arith) }
-
-pub zeroed_more : {b n k : ℕ} {F G : List ℕ} → n ≤ k → b + k < length F → Zeroed b n k F G → Zeroed b n (k + 1) F (set G (b + k) 0)
-zeroed_more {b} {n} {k} {F} {G} lo l h = record {
-  long = length-set G (b + k) 0 ∙ h.long;
-  below = take-set-le b G (b + k) 0 (omega arith) ∙ h.below;
-  kept = λ i q. get_or-set_other G (b + k) (b + i) 0 0 (λ z. omega (arith, z, q, lo)) ∙ h.kept i q;
-  zeros = λ i q p. zero i q p (cases_eq i k);
-}
-  where
-    zero : (i : ℕ) → n ≤ i → i < k + 1 → (i ≡ k) ⊎ (i ≡ k → ⊥) → get_or (set G (b + k) 0) (b + i) 0 ≡ 0
-    zero i q p (inl z) = rw z (get_or-set_same G (b + k) 0 0 (omega (arith, l, h.long)))
-    zero i q p (inr ne) = get_or-set_other G (b + k) (b + i) 0 0 (λ z. ne (omega (arith, z))) ∙ h.zeros i q (omega (arith, p, ne))
-
-pub zeroed_all : {b n k to : ℕ} {m : Memory} {G : List ℕ} → to ≤ k → Zeroed b n k m.frames G → Blanked b n to m (with_frames m G)
-zeroed_all l h = record { same = refl; long = h.long; kept = h.kept; zeros = λ i q p. h.zeros i q (omega arith) }
-
 module _ (c : Control) {c₁ : Control} {m m₁ : Memory} (f : ℕ) (hc : c₁ ≡ entered c f m.frames) (hm : m₁ ≡ m) where
   pub open_room : c.base + 40 + get_or c.code.procs (8 * f + 1) 0 ≤ length m.frames → c₁.base + get_or c.code.procs (8 * f + 1) 0 ≤ length m₁.frames
   open_room l = rw (hc, hm) l
-
-  pub open_done : {n : ℕ} {c₂ : Control} {m₂ : Memory} → c₂ ≡ c₁ → Blanked c₁.base n (get_or c.code.procs (8 * f + 1) 0) m₁ m₂ → Opened c m f n c₂ m₂
-  open_done {n} {c₂} {m₂} hc₂ b = record { here = hc₂ ∙ hc; blank = subst (λ (z : Control). Blanked z.base n (get_or c.code.procs (8 * f + 1) 0) m m₂) hc (subst (λ (z : Memory). Blanked c₁.base n (get_or c.code.procs (8 * f + 1) 0) z m₂) hm b) }
 
 -- variables that nothing was put into mean 0
 blank_means : (ks : List ℕ) (x : ℕ) → Means (get_or (blank ks) x nothing) 0

@@ -9,7 +9,7 @@ use Rattle.owned.specs.Runs.{Val, nothing, St, Took, took, missing, more, onto}
 use Rattle.machine.specs.Memory.{Control, Memory, set_word}
 use Rattle.machine.specs.Represents.{Means, Vars, State}
 use Rattle.owned.specs.Strict.{lent_at, pass_one, pass}
-use Rattle.machine.specs.Operations.{Takes, CanTake, TookOut}
+use Rattle.machine.specs.Operations.{Takes, TookOut}
 use Rattle.machine.specs.Calls.{PassesOne, CanPassOne, PassedOne, Passes, CanPass, Passed}
 use Rattle.machine.proofs.Words.{word_in, get_value, vars_same}
 use Rattle.machine.proofs.Variables.{not_took}
@@ -28,14 +28,8 @@ module _ {c : Control} {m : Memory} {x l : ℕ} where
   takes : l ≡ 0 → {p : Sig} {s : St} {v : Val} {t : St} → PassesOne c m x l p s v t → Takes c m x p s v t
   takes z g = record { state = g.state; takes = rw z at g.passes }
 
-  pub one_take : l ≡ 0 → CanPassOne c m x l → CanTake c m x
-  one_take z h = (h.0, h.1, h.2, h.3, takes z h.4)
-
   pub one_took : {c₁ : Control} {m₁ : Memory} {w : ℕ} → l ≡ 0 → TookOut c m x c₁ m₁ w → PassedOne c m x l c₁ m₁ w
   one_took z k = record { here = k.here; long = k.long; beyond = k.beyond; state = λ p s v t g. k.state p s v t (takes z g) }
-
-  pub one_there : (l ≡ 0 → ⊥) → CanPassOne c m x l → c.base + x < length m.frames
-  one_there ne h = let e = lends x l ne h.0 h.1 h.2 h.3 h.4.passes in (get_value h.4.state x h.2 e.0).0
 
   pub one_lent : {w : ℕ} → (l ≡ 0 → ⊥) → w ≡ get_or m.frames (c.base + x) 0 → PassedOne c m x l c m w
   one_lent {w} ne ew = record {
@@ -146,9 +140,6 @@ module _ {c : Control} {m : Memory} {i k : ℕ} {c₁ : Control} {m₁ : Memory}
     pass_can n = let t = split _ _ _ (the_rest n) in rw h.here (n.sig, (the_rest n).mid, t.v, t.mid, t.one)
 
     module _ {c₂ : Control} {m₂ : Memory} {w : ℕ} (one : PassedOne c₁ m₁ (get_or c₁.code.rows i₁ 0) (get_or c₁.code.rows (i₁ + 1) 0) c₂ m₂ w) where
-      pub pass_store : CanPass c m i k → c₂.base + 40 + j < length m₂.frames
-      pass_store n = rw (one.here ∙ h.here) (omega (arith, n.room, one.long, h.long))
-
       pub pass_more : {c₃ : Control} {m₃ : Memory} → c₃ ≡ c₂ → m₃ ≡ set_word m₂ (c₂.base + 40 + j) w → CanPass c m i k → {i₂ : ℕ} → i₂ ≡ i₁ + 2 → PassSofar c m i k c₃ m₃ i₂ (j + 1)
       pass_more {c₃} {m₃} e₃ f₃ n {i₂} ei =
           let ec : c₂ ≡ c = one.here ∙ h.here in

@@ -10,7 +10,7 @@ use Rattle.owned.proofs.Places.{nth_lt}
 use Rattle.machine.specs.Memory.{Numbers, Control, Store, Memory, set_word, with_store, set_content, with_output, shows, showing, too_many}
 use Rattle.machine.specs.Represents.{Means, Heap, Shown, Shows, State}
 use Rattle.owned.specs.Strict.{freed, place, assign, fetched}
-use Rattle.machine.specs.Operations.{CellFreed, CellMade, Allocated, Releases, CanRelease, Released, Takes, CanTake, TookOut, Puts, CanPut, PutIn, Points, CanPoint, PointsAt, ExprAt, Evaluates, CanEvaluate, Evaluated, NoFault, Does, Ended, CanDo, Did, CanDoAt, DidAt, Showed}
+use Rattle.machine.specs.Operations.{CellFreed, CellMade, Allocated, Releases, CanRelease, Released, Takes, TookOut, Puts, CanPut, PutIn, Points, PointsAt, ExprAt, Evaluates, CanEvaluate, Evaluated, NoFault, Does, Ended, CanDo, Did, CanDoAt, DidAt, Showed}
 use Rattle.machine.proofs.Words.{get_var, get_kind, with_var, with_heap, in_use_there, box_there, heap_fill}
 use Rattle.machine.proofs.Variables.{take_there}
 use Rattle.machine.proofs.Evaluating.{can, number_word}
@@ -35,9 +35,6 @@ module _ {c : Control} {m : Memory} {x y : ℕ} where
   moves : (p : Sig) (s : St) (r : R) → Does c m (S.move x y) p s r → (v : Val) × (t : St) × Takes c m y p s v t × (place (kind p x) x v t ≡ r)
   moves p s r d = let t = took_of d.well (fetched (kind p y) s y) _ d.does in (t.0, t.1, record { state = d.state; takes = t.2 }, t.3)
 
-  pub move_take : CanDo c m (S.move x y) → CanTake c m y
-  move_take h = let t = moves h.0 h.1 h.2 h.3 in (h.0, h.1, t.0, t.1, t.2)
-
   module _ {c₁ : Control} {m₁ : Memory} {w : ℕ} (k : TookOut c m y c₁ m₁ w) where
     pub move_put : CanDo c m (S.move x y) → CanPut c₁ m₁ x w
     move_put h = let t = moves h.0 h.1 h.2 h.3 in let u = k.state h.0 h.1 t.0 t.1 t.2 in put_can k.here t.0 u.0 u.1 t.3 h.3.well
@@ -47,9 +44,6 @@ module _ {c : Control} {m : Memory} {x y : ℕ} where
 
 -- drop
 module _ {c : Control} {m : Memory} {x : ℕ} where
-  pub drop_put : CanDo c m (S.drop x) → CanPut c m x 0
-  drop_put h = put_can refl nothing h.3.state refl h.3.does h.3.well
-
   pub drop_done : {c₁ : Control} {m₁ : Memory} → PutIn c m x 0 c₁ m₁ → Did c m (S.drop x) c₁ m₁
   drop_done i = record { here = i.here; state = λ p s r d. put_end refl i nothing d.state refl d.does d.well }
 
@@ -84,9 +78,6 @@ module _ {c : Control} {m : Memory} {x y : ℕ} where
       let k = number_of d.well (as_num o.inside) _ o.end in
       let t = there_of d.well (slice_get s.vars x) _ k.2 in
       (k.0, o.a, o.b, o.points, o.room, number_word o.inside _ k.0 o.means k.1, nth_lt s.vars x t.0 t.1, t.2)
-
-  pub look_point : CanDo c m (S.look x y) → CanPoint c m y
-  look_point h = let t = look_at h.0 h.1 h.2 h.3 in (h.0, h.1, t.1, t.2, t.3)
 
   module _ {a : ℕ} (q : PointsAt c m y a) where
     pub look_cell : CanDo c m (S.look x y) → a < length m.store.contents
@@ -132,9 +123,6 @@ module _ {c : Control} {m : Memory} {x y : ℕ} where
   boxes : (p : Sig) (s : St) (r : R) → Does c m (S.box x y) p s r → (v : Val) × (t : St) × Takes c m y p s v t × (new first_free t v (λ b u. place (kind p x) x b u) ≡ r)
   boxes p s r d = let t = took_of d.well (fetched (kind p y) s y) _ d.does in (t.0, t.1, record { state = d.state; takes = t.2 }, t.3)
 
-  pub box_take : CanDo c m (S.box x y) → CanTake c m y
-  box_take h = let t = boxes h.0 h.1 h.2 h.3 in (h.0, h.1, t.0, t.1, t.2)
-
   module _ {c₁ : Control} {m₁ : Memory} {w : ℕ} (k : TookOut c m y c₁ m₁ w) where
     taken : (p : Sig) (s : St) (r : R) (d : Does c m (S.box x y) p s r) → State c m₁ p (boxes p s r d).1 × Means (boxes p s r d).0 w
     taken p s r d = let t = boxes p s r d in k.state p s t.0 t.1 t.2
@@ -172,9 +160,6 @@ module _ {c : Control} {m : Memory} {x y : ℕ} where
       let u = held_of d.well s t.0 t.1 _ t.3 in
       opened _ d.state t.0 t.1 u.0 u.1 t.2 u.2 u.3
 
-  pub unbox_point : CanDo c m (S.unbox x y) → CanPoint c m y
-  unbox_point h = let t = unboxes h.0 h.1 h.2 h.3 in (h.0, h.1, t.a, t.b, t.points)
-
   module _ {a : ℕ} (q : PointsAt c m y a) where
     same : (p : Sig) (s : St) (r : R) (d : Does c m (S.unbox x y) p s r) → a ≡ (unboxes p s r d).a
     same p s r d = let t = unboxes p s r d in q p s t.a t.b t.points
@@ -194,9 +179,6 @@ module _ {c : Control} {m : Memory} {x y : ℕ} where
 
       there : (p : Sig) (s : St) (r : R) (d : Does c m (S.unbox x y) p s r) → y < length s.vars
       there p s r d = let t = unboxes p s r d in box_there s.vars y t.a t.b t.points.points
-
-      pub unbox_there : CanDo c m (S.unbox x y) → c.base + y < length m.frames
-      unbox_there h = (get_var (freed_state h.0 h.1 h.2 h.3) y (there h.0 h.1 h.2 h.3)).0
 
       module _ {c₁ : Control} {m₁ : Memory} (h₁ : c₁ ≡ c) (e₁ : m₁ ≡ set_word (with_store m st) (c.base + y) 0) where
         emptied : (p : Sig) (s : St) (r : R) (d : Does c m (S.unbox x y) p s r) → State c m₁ p (set_v (set_c s (unboxes p s r d).a free) y nothing)
@@ -255,12 +237,6 @@ module _ {c : Control} {m : Memory} {x y : ℕ} where
         end = z.3;
       }
 
-  pub fill_point : CanDo c m (S.fill x y) → CanPoint c m x
-  fill_point h = let t = fills h.0 h.1 h.2 h.3 in (h.0, h.1, t.a, t.b, t.points)
-
-  pub fill_take : CanDo c m (S.fill x y) → CanTake c m y
-  fill_take h = let t = fills h.0 h.1 h.2 h.3 in (h.0, h.1, t.v, t.u, t.takes)
-
   module _ {a : ℕ} (q : PointsAt c m x a) {c₁ : Control} {m₁ : Memory} {w : ℕ} (k : TookOut c m y c₁ m₁ w) where
     pub record Filling (p : Sig) (s : St) (r : R) (t : Fills c m x y p s r) : Type 0 where
       pub state : State c m₁ p t.u
@@ -278,9 +254,6 @@ module _ {c : Control} {m : Memory} {x y : ℕ} where
 
     there_y : (p : Sig) (s : St) (r : R) (t : Fills c m x y p s r) → y < length t.u.vars
     there_y p s r t = omega (arith, take_there t.takes, t.takes.state.long, (filling p s r t).state.long)
-
-    pub fill_kind : CanDo c m (S.fill x y) → c₁.kinds + y < length c₁.code.rows
-    fill_kind h = let t = fills h.0 h.1 h.2 h.3 in rw k.here (get_kind (filling h.0 h.1 h.2 t).state y (there_y h.0 h.1 h.2 t)).0
 
     pub fill_room : CanDo c m (S.fill x y) → a < length m₁.store.contents
     fill_room h = (filling h.0 h.1 h.2 (fills h.0 h.1 h.2 h.3)).room

@@ -2,14 +2,14 @@
 use Rattle.std.proofs.Common.{◌≡◌, ℕ, zero, suc, ◌+◌, ◌-◌, ◌<◌, Bool, true, false, cond, eqb, ◌⊎◌, List, length, get_or, set, Some, None, Option, sym, refl, ◌∙◌, subst, inl, inr, arith, length-set}
 use Rattle.std.proofs.lemmas.List.{get_or-set_same, get_or-set_other}
 use Rattle.std.proofs.lemmas.Bool.{cases_eq}
-use Rattle.owned.specs.Runs.{Val, n, at, nothing, Cell, free, holds, first}
-use Rattle.owned.specs.FreeList.{FreeList, InUse, GivenBack, FirstFree}
+use Rattle.owned.specs.Runs.{Val, n, at, nothing, Cell, free, holds}
+use Rattle.owned.specs.FreeList.{FreeList, InUse, GivenBack}
 use Rattle.owned.proofs.Places.{none_some}
 use Rattle.machine.specs.Memory.{Store}
 use Rattle.machine.specs.Represents.{Means, Heap}
 use Rattle.owned.specs.Strict.{opened_by, closed, freed}
-use Rattle.machine.specs.Operations.{CellFreed, Allocated, Releases, CanRelease, Released}
-use Rattle.machine.proofs.Words.{in_use_there, not_holds, content_set}
+use Rattle.machine.specs.Operations.{CellFreed, Releases, CanRelease, Released}
+use Rattle.machine.proofs.Words.{in_use_there, not_holds}
 
 -- a cell given back: the others hold what they held
 pub cell_freed : {m : Store} {a k h : ℕ} {l : List ℕ} → k ≡ m.many → ((cs : List Cell) → FreeList m.links m.head cs → InUse cs a → GivenBack m.links l h cs a) → CellFreed m a (record { many = k; contents = m.contents; links = l; head = h })
@@ -18,28 +18,6 @@ cell_freed {m} {a} {k} {h} {l} e g = record { many = e; contents = refl; heap = 
     still : (cs : List Cell) → Heap m cs → InUse cs a → (i b : ℕ) (v : Val) → get_or (set cs a free) i free ≡ holds b v → (i ≡ a) ⊎ (i ≡ a → ⊥) → Means v (get_or m.contents i 0)
     still cs r (b', v', eu) i b v e (inl q) = not_holds b v (sym (get_or-set_same cs a free free (in_use_there cs a b' v' eu)) ∙ rw q at e)
     still cs r u i b v e (inr ne) = r.content i b v (sym (get_or-set_other cs a i free free ne) ∙ e)
-
--- a cell taken
-pub cell_made : {m : Store} {w a k h : ℕ} {l : List ℕ} → k ≡ m.many → ((cs : List Cell) → FreeList m.links m.head cs → length cs ≡ m.many → FirstFree l h cs a) → Allocated m w (record { many = k; contents = set m.contents a w; links = l; head = h }) (Some (a + 1))
-cell_made {m} {w} {a} {k} {h} {l} e g = (
-  e,
-  λ cs v r me. let f = g cs r.list r.many in record {
-    cell = a;
-    word = refl;
-    chosen = f.chosen;
-    heap = λ b. record {
-      list = f.left b v;
-      many = length-set cs a (holds b v) ∙ r.many ∙ sym e;
-      fits = rw e r.fits;
-      room = omega (arith, e, r.room, length-set m.contents a w);
-      content = content_set m.contents cs a b v w f.within (omega (arith, f.within, r.many, r.room)) me r.content;
-    };
-  },
-)
-
--- none is free, and nothing changes
-pub none_made : {m : Store} (w : ℕ) {k h : ℕ} {l : List ℕ} → k ≡ m.many → l ≡ m.links → ((cs : List Cell) → FreeList m.links m.head cs → length cs ≡ m.many → (first cs 0 ≡ None) × (h ≡ m.head)) → (cs : List Cell) → Heap m cs → Allocated m w (record { many = k; contents = m.contents; links = l; head = h }) None
-none_made w ek el g ds s = (rw (ek, el, (g ds s.list s.many).1) refl, λ cs r. (g cs r.list r.many).0)
 
 -- a box that is given back: what is in it first, and then its cell, which is still its own
 pub record Opened (m : Store) (k w : ℕ) (cs ds : List Cell) : Type 0 where
@@ -93,9 +71,6 @@ nothing_held {m} {k} {w} z = record { many = refl; contents = refl; heap = λ v 
 
 -- a box: its content can be read and given back, then its cell, and that is all
 module _ {m : Store} {k w : ℕ} (lk : 0 < k) (lw : 0 < w) where
-  pub content_there : CanRelease m k w → w - 1 < length m.contents
-  content_there (v, cs, ds, r) = (opens lk lw r).room
-
   pub can_release_inside : CanRelease m k w → CanRelease m (k - 1) (get_or m.contents (w - 1) 0)
   can_release_inside (v, cs, ds, r) = let o = opens lk lw r in (o.inside, cs, o.left, o.inner)
 

@@ -1,5 +1,5 @@
 -- Back to the caller: its frame says where it goes on and where the result goes.
-use Rattle.std.proofs.Common.{◌≡◌, ℕ, suc, ◌+◌, ◌-◌, ◌*◌, ◌^◌, ◌<◌, ◌≤◌, true, List, [], ◌∷◌, length, get_or, take, Some, sym, refl, ap, ◌∙◌, subst, arith, length-take, get_or-take}
+use Rattle.std.proofs.Common.{◌≡◌, ℕ, suc, ◌+◌, ◌-◌, ◌*◌, ◌<◌, ◌≤◌, true, List, [], ◌∷◌, length, get_or, take, Some, sym, refl, ap, ◌∙◌, subst, arith, length-take, get_or-take}
 use Rattle.std.specs.List.{slice_get}
 use Rattle.std.proofs.lemmas.Bool.{eq-eqb}
 use Rattle.owned.specs.Program.{Sig, Prog, kind}
@@ -9,12 +9,11 @@ use Rattle.machine.specs.Memory.{Control, Memory, left}
 use Rattle.machine.specs.Represents.{Means, State, FrameAt, Represents}
 use Rattle.owned.specs.Strict.{or_fault, place, closes, returned, strict}
 use Rattle.machine.specs.Operations.{NoFault, Puts, CanPut, PutIn}
-use Rattle.machine.specs.Steps.{Going, Kept}
+use Rattle.machine.specs.Steps.{Going}
 use Rattle.machine.specs.Calls.{Closes, CanClose, ClosedTo, Closed, Leaves, CanLeave, Left}
 use Rattle.machine.proofs.Words.{get_value}
 use Rattle.machine.proofs.Results.{there_of, place_of}
 use Rattle.machine.proofs.Callers.{frame_same, frames_same}
-use Rattle.machine.proofs.Branching.{kept_same}
 
 -- the result stays
 pub result_stays : (p : Sig) → stays p p.result ≡ true
@@ -121,11 +120,6 @@ module _ {c : Control} {m : Memory} {c₁ : Control} {m₁ : Memory} (e : Closed
     size₀ : c.size ≡ length m₁.frames
     size₀ = rw e.here at size
 
-    pub leave_resume : CanLeave c m → (40 ≤ c₁.base) × (c₁.base ≤ length m₁.frames) × (8 * get_or m₁.frames (c₁.base - 40 + 33) 0 + 8 ≤ length c₁.code.procs) × (c₁.depth + 1 < 2 ^ 32)
-    leave_resume h =
-        let x = h.leaves.rep.context in
-        rw e.here (omega (arith, x.frames.1), omega (arith, x.room, size₀), rw (base_is h.leaves e below₀ size₀) (caller h.leaves e below₀ size₀).row.1.room, omega (arith, x.total, x.depth))
-
     module _ {w : ℕ} (ew : w ≡ get_or m₁.frames (c₁.base + get_or c₁.code.procs (8 * c₁.procedure + 2) 0) 0) {c₂ : Control} {m₂ : Memory} (e₂ : c₂ ≡ left c₁ m₁.frames) (f₂ : m₂ ≡ m₁) {x : ℕ} (ex : x ≡ get_or m₁.frames (c₁.base - 40 + 34) 0) where
       here₂ : c₂ ≡ left c m₁.frames
       here₂ = e₂ ∙ ap (λ (z : Control). left z m₁.frames) e.here
@@ -143,6 +137,3 @@ module _ {c : Control} {m : Memory} {c₁ : Control} {m₁ : Memory} (e : Closed
       leave_done {c₃} {m₃} i g d p s f fs h =
           let j : PutIn (left c m₁.frames) m₁ f.dest w c₃ m₃ = rw (here₂, f₂, is_dest h) at i in
           going_back h e below₀ size₀ (is_word h) j
-
-      pub leave_kept : {c₃ : Control} {m₃ : Memory} → PutIn c₂ m₂ x w c₃ m₃ → Kept c c₃
-      leave_kept i = let z = i.here ∙ here₂ in kept_same (ap (λ (z : Control). z.output) z)

@@ -1,11 +1,11 @@
 -- A run from its start: the first procedure is entered, and as many steps as the definition's machine takes are enough.
-use Rattle.std.proofs.Common.{◌≡◌, ℕ, zero, suc, ◌+◌, ◌-◌, ◌<◌, ◌≤◌, true, leb, [], ◌∷◌, length, get_or, replicate, Some, None, Err, Option, Result, sym, refl, ap, ◌∙◌, subst, arith}
+use Rattle.std.proofs.Common.{◌≡◌, ℕ, zero, suc, ◌+◌, ◌-◌, ◌<◌, ◌≤◌, true, leb, [], ◌∷◌, length, get_or, Some, None, Err, Option, Result, sym, refl, ap, ◌∙◌, subst, arith}
 use Rattle.std.specs.List.{slice_get}
 use Rattle.std.proofs.lemmas.Bool.{and_parts, leb-true}
 use Rattle.owned.specs.Program.{Proc, Prog}
 use Rattle.owned.specs.Kept.{kept}
 use Rattle.owned.specs.Rows.{ok_sig, ok_p, ok_ps}
-use Rattle.owned.specs.Runs.{free, fault, spent, deep, first_free, with_left, opening, at_start, run}
+use Rattle.owned.specs.Runs.{fault, spent, deep, first_free, with_left, opening, at_start, run}
 use Rattle.owned.specs.Machine.{Mach, going, stopped, push, turn_m, enter_m, call_m, step, steps, start}
 use Rattle.linker.specs.Code.{ProcAt}
 use Rattle.owned.specs.Values
@@ -15,16 +15,15 @@ use Rattle.owned.proofs.Stops.{machine_runs}
 use Rattle.owned.proofs.Safety.{Safe, step_safe, safe_strict, always_safe, faultless}
 use Rattle.owned.proofs.TypingRules.{sound}
 use Rattle.machine.specs.declared.machine.Halt.{Halt}
-use Rattle.machine.specs.declared.machine.Halt.TheVariants.{Spent, Deep}
+use Rattle.machine.specs.declared.machine.Halt.TheVariants.{Spent}
 use Rattle.machine.specs.Memory.{Control, Memory, with_turns, entered}
 use Rattle.machine.specs.Represents.{Shown, Shows}
 use Rattle.machine.specs.Operations.{NoFault}
-use Rattle.machine.specs.Steps.{Kept}
 use Rattle.machine.specs.Calls.{Blanked, Opened}
 use Rattle.machine.specs.Running.{strictly, Runs, CanRun, CameOut, Starts, CanStart, Ran}
-use Rattle.machine.proofs.Branching.{turn_off, turn_on, kept_same}
+use Rattle.machine.proofs.Branching.{turn_off, turn_on}
 use Rattle.machine.proofs.Calling.{opened_rep}
-use Rattle.machine.proofs.WholeRuns.{same_stop, kept_on}
+use Rattle.machine.proofs.WholeRuns.{same_stop}
 
 -- at most 32 variables
 few_kinds : (g : Prog) → ok_ps g ≡ true → (f : ℕ) (q : Proc) → slice_get g f ≡ Some q → length q.sig.kinds ≤ 32
@@ -94,9 +93,6 @@ module _ {g : Prog} {cells d turns k : ℕ} {c : Control} {m : Memory} (h : Star
         }
 
 module _ {k : ℕ} {c : Control} {m : Memory} where
-  pub run_deep : c.depth ≡ 0 → Ran k c m c (Err Deep)
-  run_deep z g cells d turns h = too_deep h z
-
   pub run_spent : (c.depth ≡ 0 → ⊥) → c.turns ≡ 0 → Ran k c m c (Err Spent)
   run_spent nz z g cells d turns h = no_turns h nz z
 
@@ -110,6 +106,3 @@ module _ {k : ℕ} {c : Control} {m : Memory} where
 
       pub run_end : (c₂ : Control) (r : Result ℕ Halt) → CameOut k c₁ m₁ c₂ r → Ran k c m c₂ r
       run_end c₂ r out g cells d turns h = (rw o.here at out) g _ _ _ _ _ _ (begun h nz size nt o.blank)
-
-pub run_shown : {c : Control} {m : Memory} {c₁ c₂ : Control} {m₁ : Memory} → Opened (with_turns c (c.turns - 1)) m 0 0 c₁ m₁ → Kept c₁ c₂ → Kept c c₂
-run_shown o q = let e = o.here in kept_on (kept_same (ap (λ (z : Control). z.output) e)) q

@@ -1,5 +1,5 @@
 -- A step: what the statement's head says is done, and the machine goes on after it.
-use Rattle.std.proofs.Common.{◌≡◌, ℕ, ◌+◌, ◌<◌, Bool, true, false, cond, ltb, List, [], ◌∷◌, length, get_or, Some, Ok, Err, Result, sym, refl, ap, ◌∙◌, subst, arith, length-set, drop-set-lt}
+use Rattle.std.proofs.Common.{◌≡◌, ℕ, ◌+◌, Bool, true, false, cond, ltb, List, [], ◌∷◌, length, get_or, Some, Ok, Err, Result, sym, refl, ap, ◌∙◌, subst, arith, length-set, drop-set-lt}
 use Rattle.owned.specs.Program.{E, Arg, S, Sig, Prog}
 use Rattle.owned.specs.Runs.{first_free, St, full}
 use Rattle.owned.specs.Machine.{Frame, going, stopped, and_m}
@@ -16,9 +16,8 @@ use Rattle.machine.specs.Represents.{single, State, Represents}
 use Rattle.owned.specs.Strict.{perform, strict_s}
 use Rattle.machine.specs.Operations.{Does, Ended, CanDo, Did, CanDoAt, DidAt, Showed, Transferred, ExprAt}
 use Rattle.machine.specs.Steps.{Going, After, Ready, CanStep, Stepped, Kept, any_s, if_s, while_s, call_s}
-use Rattle.machine.proofs.Words.{word_in}
 use Rattle.machine.proofs.Evaluating.{drop_past}
-use Rattle.machine.proofs.Branching.{standing, past, moved, kept_same}
+use Rattle.machine.proofs.Branching.{standing, past, moved}
 use Rattle.machine.proofs.Heads.{fits_head}
 
 abbrev Says : Control → Statement → Type 0
@@ -68,13 +67,6 @@ module _ {c : Control} {m : Memory} where
   pub call_done : (x : Var) (f k : ℕ) (c₁ : Control) (m₁ : Memory) (r : Result (Unit {0}) Halt) → Says c (Call x f k) → Stepped (List Arg) (call_s x.0 f) c m c₁ m₁ r → Stepped S any_s c m c₁ m₁ r
   call_done x f k c₁ m₁ r e = stepped_by (call_s x.0 f) (call_parts x f k e) c₁ m₁ r
 
--- the head's words are the first ones
-pub call_many : {c : Control} {m : Memory} (x : Var) (f k : ℕ) → Says c (Call x f k) → CanStep S any_s c m → k ≡ get_or c.code.rows (c.pos + 3) 0
-call_many {c} {m} x f k e h =
-    let q = fits_head h.ready e in
-    let w = (standing (as_is {b = S.call x.0 f q.0} q.1 h.ready)).words in
-    q.2 ∙ sym (word_in c.pos c.code.rows _ 3 w.1 (omega arith)).1
-
 -- statements that are done at once
 abbrev AtOnce : S → Type 0
 AtOnce b = (g : Prog) (d : ℕ) (p : Sig) (ss : List S) (s : St) (fs : List Frame) → strict_s first_free g d p b ss s fs ≡ and_m (perform first_free p b s) (λ t. going d p ss t fs)
@@ -92,13 +84,6 @@ module _ {g : Prog} {c : Control} {m : Memory} {d : ℕ} {p : Sig} {b : S} {ss :
 
   went : {c₁ c₂ : Control} {m₁ m₂ : Memory} → c₁ ≡ c → Ended c m₁ p (perform first_free p b s) → c₂ ≡ go_to c₁ (get_or c₁.code.follow c₁.pos 0) → m₂ ≡ m₁ → Going g c₂ m₂ (strict_s first_free g d p b ss s fs)
   went e n e₂ f = record { d = d; p = p; todo = ss; s = n.end; fs = fs; is = once g d p ss s fs ∙ ap (λ r. and_m r (λ t. going d p ss t fs)) n.is; rep = past h e n.state e₂ f }
-
--- the numbers shown stay where control does but for its place
-pub on_kept : {c c₁ c₂ : Control} → c₁ ≡ c → c₂ ≡ go_to c₁ (get_or c₁.code.follow c₁.pos 0) → Kept c c₂
-on_kept e f = let z = f ∙ ap (λ (z : Control). go_to z (get_or z.code.follow z.pos 0)) e in kept_same (ap (λ (z : Control). z.output) z)
-
-pub room_on : {c c₁ : Control} {m : Memory} {at : ℕ} → c₁ ≡ c → at ≡ c.pos → CanStep S any_s c m → (at ≡ c₁.pos) × (c₁.pos < length c₁.code.follow)
-room_on e i h = rw e (i, h.room)
 
 module _ (b : S) (once : AtOnce b) {c : Control} {m : Memory} (is : All c m (λ a. a ≡ b)) where
   once_can : CanStep S any_s c m → CanDo c m b
@@ -190,6 +175,3 @@ module _ {c c₁ : Control} (w : ℕ) (e : c₁ ≡ with_output c (shows c.outpu
   show_kept {c₂} f =
       let k : Kept c c₁ = rw e (shown_kept c w (ltb c.output.count (length c.output.shown)) refl) in
       rw f (record { out = k.out; long = k.long; more = k.more; past = k.past })
-
-  pub show_room : {m : Memory} {at : ℕ} → at ≡ c.pos → CanStep S any_s c m → (at ≡ c₁.pos) × (c₁.pos < length c₁.code.follow)
-  show_room i h = rw e (i, h.room)

@@ -8,8 +8,8 @@ use Rattle.owned.proofs.Places.{nth_lt}
 use Rattle.machine.specs.Memory.{Control, Store, Memory, set_word, with_store}
 use Rattle.machine.specs.Represents.{State}
 use Rattle.owned.specs.Strict.{freed, or_fault, place, taken_at, fetched}
-use Rattle.machine.specs.Operations.{Releases, CanRelease, Released, Takes, CanTake, TookOut, Puts, CanPut, PutIn, Points}
-use Rattle.machine.proofs.Words.{get_var, get_value, get_kind, with_var, with_heap, box_there}
+use Rattle.machine.specs.Operations.{Releases, CanRelease, Released, Takes, CanTake, TookOut, Puts, CanPut, PutIn}
+use Rattle.machine.proofs.Words.{get_var, get_value, get_kind, with_var, with_heap}
 
 -- what a result that is fine came from
 pub fault_fine : {B : Type 0} (f : ℕ) (t : St) → fault f ≡ fine t → B
@@ -29,12 +29,6 @@ fetched_there k s x v t e = go (slice_get s.vars x) refl e
 module _ {c : Control} {m : Memory} {x : ℕ} where
   pub take_there : {p : Sig} {s : St} {v : Val} {t : St} → Takes c m x p s v t → x < length s.vars
   take_there {p} {s} {v} {t} g = let h = fetched_there (kind p x) s x v t g.takes in nth_lt s.vars x h.0 h.1
-
-  pub take_var : CanTake c m x → c.base + x < length m.frames
-  take_var h = (get_var h.4.state x (take_there h.4)).0
-
-  pub take_kind : CanTake c m x → c.kinds + x < length c.code.rows
-  take_kind h = (get_kind h.4.state x (take_there h.4)).0
 
   module _ {k w : ℕ} (ek : k ≡ get_or c.code.rows (c.kinds + x) 0) (ew : w ≡ get_or m.frames (c.base + x) 0) where
     kind_is : {p : Sig} {s : St} {v : Val} {t : St} → Takes c m x p s v t → k ≡ kind p x
@@ -99,9 +93,6 @@ module _ {c : Control} {m : Memory} {x w : ℕ} where
   pub put_var : CanPut c m x w → c.base + x < length m.frames
   put_var h = (get_var h.4.state x (put_there h.4)).0
 
-  pub put_kind : CanPut c m x w → c.kinds + x < length c.code.rows
-  put_kind h = (get_kind h.4.state x (put_there h.4)).0
-
   module _ {k old : ℕ} (ek : k ≡ get_or c.code.rows (c.kinds + x) 0) (eo : old ≡ get_or m.frames (c.base + x) 0) where
     gives : {p : Sig} {s : St} {v : Val} {t : St} (g : Puts c m x w p s v t) (h : Placing x (kind p x) v s t) → Releases m.store k old h.old s.cells h.cells
     gives {p} {s} g h = record { heap = g.state.cells; means = rw eo (get_value g.state x h.old h.there).1; freed = rw (ek ∙ (get_kind g.state x (put_there g)).1) h.freed }
@@ -118,7 +109,3 @@ module _ {c : Control} {m : Memory} {x w : ℕ} where
             let r = with_heap g.state (with_store m st) (with_cells s h.cells) refl (f.heap h.old s.cells h.cells (gives g h)) refl refl refl in
             rw (hm, ← h.is) (with_var r x v w (put_there g) g.means));
       }
-
--- the cell of a box
-pub points_word : {c : Control} {m : Memory} {x : ℕ} {p : Sig} {s : St} {a b : ℕ} → Points c m x p s a b → (c.base + x < length m.frames) × (get_or m.frames (c.base + x) 0 ≡ a + 1)
-points_word {c} {m} {x} {p} {s} {a} {b} g = rw g.points at (get_var g.state x (box_there s.vars x a b g.points))

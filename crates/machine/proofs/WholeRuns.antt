@@ -55,9 +55,6 @@ module _ {g : Prog} {k : ℕ} {c : Control} {m : Memory} {r : R} (h : Still g k 
   steps : Steps g c m h.d h.p h.todo h.s h.fs
   steps = record { rep = h.runs.rep; well = λ f e. h.runs.well f (same_stop g (k - 1) _ (fault f) r next.1 e) }
 
-pub run_start : {k : ℕ} {c : Control} {m : Memory} → GoingOn k c m k c m
-run_start {k} {c} {m} = record { carried = λ g d p ss s fs r h. record { d = d; p = p; todo = ss; s = s; fs = fs; runs = h }; kept = record { out = refl; long = refl; more = omega arith; past = refl } }
-
 module _ {k k₁ : ℕ} {c c₁ : Control} {m m₁ : Memory} (h : GoingOn k c m k₁ c₁ m₁) where
   now : (w : CanRun k c m) → Still w.prog k₁ c₁ m₁ w.outcome
   now w = h.carried w.prog w.depth w.sig w.todo w.state w.callers w.outcome w.runs

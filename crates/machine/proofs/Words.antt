@@ -1,7 +1,6 @@
 -- Reading and writing what the words stand for: words of the rows, variables, and cells.
 -- Variables and cells are said place by place, so that a write is looked at once, at its place and at another.
-use Rattle.std.proofs.Common.{◌≡◌, ℕ, zero, suc, ◌+◌, ◌<◌, ◌≤◌, ◌⊎◌, List, [], ◌∷◌, ◌++◌, length, get_or, take, drop, set, Some, sym, refl, ap, ◌∙◌, inl, inr, arith, length-append, length-drop, length-set}
-use lib.Seq.{take-set-le}
+use Rattle.std.proofs.Common.{◌≡◌, ℕ, zero, suc, ◌+◌, ◌<◌, ◌≤◌, ◌⊎◌, List, [], ◌∷◌, ◌++◌, length, get_or, drop, set, Some, sym, refl, ap, ◌∙◌, inl, inr, arith, length-append, length-drop, length-set}
 use Rattle.std.specs.List.{slice_get}
 use Rattle.std.proofs.lemmas.List.{get_or-set_same, get_or-set_other, get_or-drop, get_or_append_left}
 use Rattle.std.proofs.lemmas.Bool.{cases_eq}
@@ -15,10 +14,6 @@ use Rattle.machine.specs.Represents.{Means, Vars, Heap, State}
 -- the words of a list that begins at a place
 pub word_in : (i : ℕ) (ws us : List ℕ) (j : ℕ) → drop i ws ≡ us → j < length us → (i + j < length ws) × (get_or ws (i + j) 0 ≡ get_or us j 0)
 word_in i ws us j e l = (omega (arith, length-drop i ws, ap length e), sym (get_or-drop i ws j 0) ∙ ap (λ zs. get_or zs j 0) e)
-
--- words below a place stay as one from there on is written
-pub below_kept : (b x w : ℕ) (ws : List ℕ) → take b (set ws (b + x) w) ≡ take b ws
-below_kept b x w ws = take-set-le b ws (b + x) w (omega arith)
 
 -- variables
 pub vars_write : (vs : List Val) (ws : List ℕ) (b x : ℕ) (v : Val) (w : ℕ) → Vars vs ws b → Means v w → x < length vs → Vars (set vs x v) (set ws (b + x) w) b

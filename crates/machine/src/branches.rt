@@ -49,10 +49,7 @@ impl<'a> Machine<'a> {
         if word == 0 {
             return Ok(self.proceed(at));
         }
-        if self.turns == 0 {
-            return Err(Halt::Spent);
-        }
-        self.turns -= 1;
+        self.turns = self.turns.checked_sub(1).ok_or(Halt::Spent)?;
         let next = self.tables.inner[at] as usize;
         self.pos = next;
         Ok(next)

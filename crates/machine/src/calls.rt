@@ -120,10 +120,7 @@ impl<'a> Machine<'a> {
             return Err(Halt::Deep);
         }
         self.pass_arguments(at + 4, many);
-        if self.turns == 0 {
-            return Err(Halt::Spent);
-        }
-        self.turns -= 1;
+        self.turns = self.turns.checked_sub(1).ok_or(Halt::Spent)?;
         self.suspend(at, dest);
         Ok(self.open(f, many))
     }

@@ -8,7 +8,8 @@ ghost use Rattle.machine.specs.Operations.{CellFreed, Allocated, CanRelease, Rel
 use owned::cells::FreeCells;
 use owned::names::{CellIndex, Kind};
 
-// The cells of boxes, by their numbers: what is in each, and which are free.
+// The cells of boxes, by their numbers: what is in each, and which are free. Contents and links are lent words, each in
+// a table of its own, since the free list is kept without looking at what cells hold.
 #[derive(Drop)]
 pub struct Cells<'a> {
     pub contents: &'a mut [u32],

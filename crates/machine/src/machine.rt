@@ -14,7 +14,7 @@ use owned::names::Var;
 
 // A program that runs in lent memory: there is no heap, so boxes are cells by their numbers, and open procedures are
 // frames of words. `count` and `over` stand beside `shown`, and not in a struct with it: `shown` is lent for another
-// time than the rest, and a field that is a struct takes no borrow of another lifetime.
+// time than the rest, and the proof of a run takes no struct with a borrow of another lifetime as a field.
 #[derive(Drop)]
 pub struct Machine<'a> {
     pub rows: &'a [u32],
@@ -47,8 +47,8 @@ pub enum Progress {
     Done(u32),
 }
 
-// Who looks at the machine after each step after which a run goes on. A closure would ask of who runs a program that it
-// may be called, as the public entry points must not.
+// Who looks at the machine after each step after which a run goes on. It is no closure, since an entry point would then
+// ask of its callers that the closure may be called.
 pub trait Observer {
     fn see(&mut self, machine: &Machine<'_>);
 }
@@ -72,7 +72,8 @@ impl<'a> Machine<'a> {
         Statement::Between(what, Var(x), Var(y))
     }
 
-    // The statement at the machine's place, without the parts that follow it. It is no pair.
+    // The statement at the machine's place, without the parts that follow it. It is no pair. Only the words that it has
+    // are read, and none is tested: `owned` reads rows that are not known to be a program.
     fn statement(&self, at: usize) -> Statement
         requires at { at ≡ (control self.now).pos }
         requires can { CanStep S any_s (control self.now) (memory self.now) }
@@ -159,6 +160,7 @@ impl<'a> Machine<'a> {
         ensures came { CameOut budget (control self.old) (memory self.old) (control self.new) result }
         ensures kept { Kept (control self.old) (control self.new) }
     {
+        // A `for` over the budget, which is no word of the processor, makes every run slower by a tenth.
         let mut left = budget;
         let mut at = at;
         loop {
@@ -182,10 +184,7 @@ impl<'a> Machine<'a> {
         if self.depth == 0 {
             return Err(Halt::Deep);
         }
-        if self.turns == 0 {
-            return Err(Halt::Spent);
-        }
-        self.turns -= 1;
+        self.turns = self.turns.checked_sub(1).ok_or(Halt::Spent)?;
         let at = self.open(0, 0);
         self.run_on(at, budget, observer)
     }

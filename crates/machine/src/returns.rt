@@ -17,6 +17,7 @@ impl<'a> Machine<'a> {
         let row = PROC_WORDS * self.procedure as usize;
         let many = self.tables.procs[row + MANY];
         let mut mask = self.tables.procs[row + RELEASED];
+        // The bits are shifted out, so that the last of them ends the loop.
         for x in 0..many {
             if mask == 0 {
                 break;

@@ -5,7 +5,8 @@ ghost use Rattle.machine.specs.Operations.{CanEvaluate, Evaluated, combined, nes
 use crate::machine::Machine;
 use owned::names::Var;
 
-// Two numbers added, subtracted, multiplied or compared, by the code of the operator. Numbers wrap.
+// Two numbers added, subtracted, multiplied or compared, by the word of the operator. Numbers wrap. The word is looked at
+// once, where it is used: an enum made from it would be matched again at once.
 fn combine(code: u32, a: u32, b: u32) -> u32
     requires { 2 ≤ code }
     ensures { result ≡ combined code a b }

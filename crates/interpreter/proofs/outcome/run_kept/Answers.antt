@@ -1,10 +1,7 @@
 use Rattle.std.proofs.Common.{refl, arith, rules}
 use Rattle.machine.specs.Memory.{control}
-use Rattle.interpreter.proofs.Outcomes.{few_words, starting, enough_steps, told, went_as}
+use Rattle.interpreter.proofs.Outcomes.{starting, enough_steps, told, went_as}
 use Rattle.interpreter.proofs.outcome.run_kept.Goals as goal
-
-pub link-requires : goal.link-requires
-link-requires g c = ((c.requires.prog, c.requires.rows), record { tables = record { rows = few_words c.requires; follow = search rules; inner = search rules; other = search rules }; procs = search rules })
 
 pub run-outcome-requires : goal.run-outcome-requires
 run-outcome-requires g c = record { prog = c.requires.prog; cells = _; depth = _; turns = c.args.limits.turns; starts = starting c.requires c.link.ensures refl refl refl (omega arith) refl c.new-free.ensures.many c.new-free.ensures.list (omega arith) (search rules) refl refl (search rules) (enough_steps c.args.limits.turns _ c.from.result (search rules)) }

@@ -16,14 +16,14 @@ is_nested-requires-2 t c = can_right (control c.args.self.now) (memory c.args.se
 pub nested-a-requires : goal.nested-a-requires
 nested-a-requires t c = (omega (arith, c.requires.can.here), (can_left (control c.args.self.now) (memory c.args.self.now) c.args.at c.requires.operator c.requires.can, nests_operator c.args.self.now.rows.now (c.args.at + 1) (sym c.if-is_nested.ensures)))
 
-pub shallow-a-requires : goal.shallow-a-requires
-shallow-a-requires t c = record { can = can_left (control c.args.self.now) (memory c.args.self.now) c.args.at c.requires.operator c.requires.can; shallow = sym c.if-is_nested.ensures }
+pub shallow-a-requires-clause-can : goal.shallow-a-requires-clause-can
+shallow-a-requires-clause-can t c = can_left (control c.args.self.now) (memory c.args.self.now) c.args.at c.requires.operator c.requires.can
 
 pub nested-b-requires : goal.nested-b-requires
 nested-b-requires t c = (omega (arith, c.requires.can.here, past_left (control c.args.self.now) (memory c.args.self.now) c.args.at c.requires.operator c.requires.can), (can_right (control c.args.self.now) (memory c.args.self.now) c.args.at c.requires.operator c.requires.can, nests_operator c.args.self.now.rows.now _ (sym c.if-is_nested-2.ensures)))
 
-pub shallow-b-requires : goal.shallow-b-requires
-shallow-b-requires t c = record { can = can_right (control c.args.self.now) (memory c.args.self.now) c.args.at c.requires.operator c.requires.can; shallow = sym c.if-is_nested-2.ensures }
+pub shallow-b-requires-clause-can : goal.shallow-b-requires-clause-can
+shallow-b-requires-clause-can t c = can_right (control c.args.self.now) (memory c.args.self.now) c.args.at c.requires.operator c.requires.can
 
 pub returns : goal.returns
 returns t c =

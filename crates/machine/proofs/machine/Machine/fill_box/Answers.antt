@@ -1,14 +1,5 @@
-use Rattle.machine.proofs.Performing.{fill_point, fill_take, fill_kind, fill_room, fill_release, fill_index, fill_done}
+use Rattle.machine.proofs.Performing.{fill_room, fill_release, fill_index, fill_done}
 use Rattle.machine.proofs.machine.Machine.fill_box.Goals as goal
-
-pub cell_of-cell-requires : goal.cell_of-cell-requires
-cell_of-cell-requires c = fill_point c.requires
-
-pub take-word-requires : goal.take-word-requires
-take-word-requires c = fill_take c.requires
-
-pub kind_of-kind-requires : goal.kind_of-kind-requires
-kind_of-kind-requires c = fill_kind c.cell_of-cell.ensures c.take-word.ensures c.requires
 
 pub bounds-self-cell : goal.bounds-self-cell
 bounds-self-cell c = fill_room c.cell_of-cell.ensures c.take-word.ensures c.requires

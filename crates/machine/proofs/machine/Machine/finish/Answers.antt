@@ -1,17 +1,11 @@
 use Rattle.std.proofs.Common.{◌+◌, ◌/◌, sym, refl, subst, inl, inr, arith}
 use Rattle.machine.specs.Memory.{control, memory}
-use Rattle.machine.proofs.Closing.{CloseSofar, close_start, close_end, close_unmarked, close_kind, close_var, close_release, close_marked}
+use Rattle.machine.proofs.Closing.{CloseSofar, close_end, close_unmarked, close_kind, close_release, close_marked}
 use Rattle.machine.proofs.machine.Machine.finish.Goals.{then-mask-eq1, else-mask-eq1}
 use Rattle.machine.proofs.machine.Machine.finish.Goals as goal
 
-pub loop-x-init : goal.loop-x-init
-loop-x-init c = close_start refl refl
-
 pub kind_of-kind-requires : goal.kind_of-kind-requires
 kind_of-kind-requires c = close_kind refl c.loop-x.invariant c.loop-x-test.true c.if-mask-eq1.true c.requires
-
-pub load-word-requires : goal.load-word-requires
-load-word-requires c = close_var refl c.loop-x.invariant c.loop-x-test.true c.if-mask-eq1.true c.requires
 
 pub release-requires : goal.release-requires
 release-requires c = close_release refl c.loop-x.invariant c.loop-x-test.true c.if-mask-eq1.true c.kind_of-kind.ensures c.load-word.ensures c.requires

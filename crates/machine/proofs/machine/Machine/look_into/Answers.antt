@@ -1,8 +1,5 @@
-use Rattle.machine.proofs.Performing.{look_point, look_cell, look_there, look_done}
+use Rattle.machine.proofs.Performing.{look_cell, look_there, look_done}
 use Rattle.machine.proofs.machine.Machine.look_into.Goals as goal
-
-pub cell_of-cell-requires : goal.cell_of-cell-requires
-cell_of-cell-requires c = look_point c.requires
 
 pub bounds-self-cell : goal.bounds-self-cell
 bounds-self-cell c = look_cell c.cell_of-cell.ensures c.requires

@@ -1,11 +1,8 @@
-use Rattle.std.proofs.Common.{◌≡◌, Some, None, ◌∙◌, arith}
+use Rattle.std.proofs.Common.{◌≡◌, None, arith}
 use Rattle.std.proofs.lemmas.Result.{err_from_is_err_and}
 use Rattle.machine.specs.declared.machine.Halt.TheVariants.{Full}
-use Rattle.machine.proofs.Performing.{box_take, box_heap, box_full, box_put, box_done}
+use Rattle.machine.proofs.Performing.{box_heap, box_full, box_put, box_done}
 use Rattle.machine.proofs.machine.Machine.make_box.Goals as goal
-
-pub take-word-requires : goal.take-word-requires
-take-word-requires c = box_take c.requires
 
 pub allocate-requires : goal.allocate-requires
 allocate-requires c = box_heap c.take-word.ensures c.requires
@@ -20,5 +17,5 @@ returns-in_err-made-clause-done c =
 pub put-requires : goal.put-requires
 put-requires c = box_put c.take-word.ensures (rw c.in_ok-made.ensures.ok_part at c.allocate.ensures) c.requires
 
-pub returns : goal.returns
-returns c = record { here = c.put.ensures.here ∙ c.take-word.ensures.here; done = box_done c.take-word.ensures (rw c.in_ok-made.ensures.ok_part at c.allocate.ensures) c.put.ensures }
+pub returns-clause-done : goal.returns-clause-done
+returns-clause-done c = box_done c.take-word.ensures (rw c.in_ok-made.ensures.ok_part at c.allocate.ensures) c.put.ensures

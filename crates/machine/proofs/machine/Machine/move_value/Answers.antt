@@ -1,8 +1,5 @@
-use Rattle.machine.proofs.Performing.{move_take, move_put, move_done}
+use Rattle.machine.proofs.Performing.{move_put, move_done}
 use Rattle.machine.proofs.machine.Machine.move_value.Goals as goal
-
-pub take-word-requires : goal.take-word-requires
-take-word-requires c = move_take c.requires
 
 pub put-requires : goal.put-requires
 put-requires c = move_put c.take-word.ensures c.requires

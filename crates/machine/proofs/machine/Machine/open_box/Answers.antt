@@ -1,17 +1,11 @@
-use Rattle.machine.proofs.Performing.{unbox_point, unbox_room, unbox_in_use, unbox_there, unbox_put, unbox_done}
+use Rattle.machine.proofs.Performing.{unbox_room, unbox_in_use, unbox_put, unbox_done}
 use Rattle.machine.proofs.machine.Machine.open_box.Goals as goal
-
-pub cell_of-cell-requires : goal.cell_of-cell-requires
-cell_of-cell-requires c = unbox_point c.requires
 
 pub bounds-self-cell : goal.bounds-self-cell
 bounds-self-cell c = unbox_room c.cell_of-cell.ensures c.requires
 
 pub give_back-requires : goal.give_back-requires
 give_back-requires c = unbox_in_use c.cell_of-cell.ensures c.requires
-
-pub store-requires : goal.store-requires
-store-requires c = unbox_there c.cell_of-cell.ensures c.give_back.ensures c.requires
 
 pub put-requires : goal.put-requires
 put-requires c = unbox_put c.cell_of-cell.ensures c.give_back.ensures c.store.ensures.here c.store.ensures.stored c.requires

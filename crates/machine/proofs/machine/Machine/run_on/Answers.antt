@@ -1,14 +1,11 @@
 use Rattle.std.proofs.Common.{arith}
 use Rattle.std.proofs.lemmas.Result.{err_from_is_err_and}
 use Rattle.machine.specs.Memory.{control, memory}
-use Rattle.machine.proofs.WholeRuns.{run_start, run_left, run_step, run_again, run_done, run_halt, kept_on}
+use Rattle.machine.proofs.WholeRuns.{run_left, run_step, run_again, run_done, run_halt, kept_on}
 use Rattle.machine.proofs.machine.Machine.run_on.Goals as goal
 
-pub loop-next-init : goal.loop-next-init
-loop-next-init g c = (run_start, c.requires.at)
-
-pub step-requires : goal.step-requires
-step-requires g c = record { at = c.loop-next.invariant.1; can = run_step c.loop-next.invariant.0 c.requires.can }
+pub step-requires-clause-can : goal.step-requires-clause-can
+step-requires-clause-can g c = run_step c.loop-next.invariant.0 c.requires.can
 
 pub overflow_sub-left : goal.overflow_sub-left
 overflow_sub-left g c = run_left c.loop-next.invariant.0 c.requires.can

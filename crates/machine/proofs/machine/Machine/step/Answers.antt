@@ -1,14 +1,11 @@
 use Rattle.std.proofs.Common.{arith}
 use Rattle.std.proofs.lemmas.Result.{err_from_is_err_and}
 use Rattle.machine.specs.Memory.{control, memory}
-use Rattle.machine.proofs.Advancing.{step_execute, executed_on, executed_halt, step_leave, left_on, step_finish, step_result, finished, finished_kept}
+use Rattle.machine.proofs.Advancing.{step_execute, executed_halt, step_leave, left_on, step_finish, step_result, finished}
 use Rattle.machine.proofs.machine.Machine.step.Goals as goal
 
-pub execute-requires : goal.execute-requires
-execute-requires c = record { at = c.requires.at; can = step_execute (omega arith) c.requires.can }
-
-pub returns-then-at-self : goal.returns-then-at-self
-returns-then-at-self c = record { advanced = executed_on (omega arith) c.in_ok-execute.field-0 c.in_ok-execute.ensures.stepped; kept = c.in_ok-execute.ensures.kept; next = c.in_ok-execute.ensures.next }
+pub execute-requires-clause-can : goal.execute-requires-clause-can
+execute-requires-clause-can c = step_execute (omega arith) c.requires.can
 
 pub returns-in_err-execute-clause-advanced : goal.returns-in_err-execute-clause-advanced
 returns-in_err-execute-clause-advanced c =
@@ -18,14 +15,14 @@ returns-in_err-execute-clause-advanced c =
 pub leave-requires : goal.leave-requires
 leave-requires c = step_leave (omega arith) (omega arith) c.requires.can
 
-pub returns-then-self-gt-FRAME_WORDS : goal.returns-then-self-gt-FRAME_WORDS
-returns-then-self-gt-FRAME_WORDS c = record { advanced = left_on (omega arith) (omega arith) c.leave.result c.leave.ensures.stepped; kept = c.leave.ensures.kept; next = c.leave.ensures.next }
+pub returns-then-self-gt-FRAME_WORDS-clause-advanced : goal.returns-then-self-gt-FRAME_WORDS-clause-advanced
+returns-then-self-gt-FRAME_WORDS-clause-advanced c = left_on (omega arith) (omega arith) c.leave.result c.leave.ensures.stepped
 
 pub finish-requires : goal.finish-requires
 finish-requires c = step_finish (omega arith) (omega arith) c.requires.can
 
-pub result-requires : goal.result-requires
-result-requires c = let r = step_result (omega arith) (omega arith) c.finish.ensures c.requires.can in record { row = r.0; there = r.1 }
+pub result-requires-clause-there : goal.result-requires-clause-there
+result-requires-clause-there c = let r = step_result (omega arith) (omega arith) c.finish.ensures c.requires.can in r.1
 
-pub returns : goal.returns
-returns c = record { advanced = finished (omega arith) (omega arith) c.finish.ensures c.result.ensures; kept = finished_kept (omega arith) (omega arith) c.finish.ensures; next = tt }
+pub returns-clause-advanced : goal.returns-clause-advanced
+returns-clause-advanced c = finished (omega arith) (omega arith) c.finish.ensures c.result.ensures

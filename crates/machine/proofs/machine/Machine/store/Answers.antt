@@ -1,7 +1,0 @@
-use Rattle.std.proofs.Common.{refl, ap₂, length-set}
-use Rattle.machine.specs.Memory.{control, with_below}
-use Rattle.machine.proofs.Words.{below_kept}
-use Rattle.machine.proofs.machine.Machine.store.Goals as goal
-
-pub returns : goal.returns
-returns c = record { here = ap₂ (with_below (control c.args.self.now)) (below_kept c.args.self.now.base c.args.x.0 c.args.word c.args.self.now.frames.now) (length-set _ _ _); stored = refl }
