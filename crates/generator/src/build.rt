@@ -38,11 +38,8 @@ pub fn in_order(
     statements: Vec<Statement>,
     last: Statement,
 ) -> Result<Statement, AllocError> {
-    let mut whole = last;
-    for statement in statements.into_iter().rev() {
-        whole = pair(heap, statement, whole)?;
-    }
-    Ok(whole)
+    let mut backward = statements.into_iter().rev();
+    backward.try_fold(last, |whole, statement| pair(heap, statement, whole))
 }
 
 // Statements one after the other: each is paired with all before it.
@@ -51,15 +48,10 @@ pub fn in_order_leftward(
     statements: Vec<Statement>,
     last: Statement,
 ) -> Result<Statement, AllocError> {
-    let mut whole = None;
-    for statement in statements {
-        whole = Some(match whole {
-            Some(before) => pair(heap, before, statement)?,
-            None => statement,
-        });
-    }
-    match whole {
-        Some(before) => pair(heap, before, last),
-        None => Ok(last),
-    }
+    let mut forward = statements.into_iter();
+    let Some(first) = forward.next() else {
+        return Ok(last);
+    };
+    let whole = forward.try_fold(first, |whole, statement| pair(heap, whole, statement))?;
+    pair(heap, whole, last)
 }

@@ -24,9 +24,8 @@ impl Rows {
         self.count(signature.kinds.len())?;
         self.words.extend_from_slice(signature.kinds.as_slice())?;
         self.count(signature.marks.len())?;
-        for mark in signature.marks.iter() {
-            self.words.push(u32::from(*mark))?;
-        }
+        let marks = signature.marks.iter().map(|mark| u32::from(*mark));
+        self.words.extend(marks)?;
         self.words.push(signature.result.0)?;
         Ok(())
     }

@@ -98,14 +98,13 @@ impl<'s, 'm, 'r> Step<'s, 'm, 'r> {
 
     fn callers(&mut self) -> Result<(), Difference> {
         let run = self.run;
-        let mut base = FRAME;
-        for frame in run.callers.iter() {
+        for (base, frame) in (FRAME..).step_by(FRAME).zip(run.callers.iter()) {
             let same = self.variables(frame, base);
             same.map_err(|_| Difference::Caller)?;
             self.control(frame, base)?;
-            base = base.saturating_add(FRAME);
         }
-        ensure(base == self.machine.base, Difference::Caller)
+        let end = FRAME.saturating_mul(run.open_calls());
+        ensure(self.machine.base == end, Difference::Caller)
     }
 
     // What variables hold. Every box is found from one, and every cell that is not free is a box.
