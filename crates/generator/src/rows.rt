@@ -1,5 +1,5 @@
-use reference::tree::{Call, Expression, Signature, Statement};
-use reference::words::Form;
+use reference::tree::{Call, Expression, Signature, Statement, Var};
+use reference::words::{Form, Head};
 use std::alloc::{AllocError, Global};
 
 // A program's words, as far as they are written.
@@ -31,11 +31,13 @@ impl Rows {
     }
 
     fn expression(&mut self, e: &Expression) -> Result<(), AllocError> {
+        self.words.push(u32::from(Head::from(e)))?;
         match e {
-            Expression::Number(number) => self.words.extend_from_slice(&[0, *number]),
-            Expression::Variable(x) => self.words.extend_from_slice(&[1, x.0]),
-            Expression::Reckoned(operator, a, b) => {
-                self.words.push(u32::from(*operator))?;
+            Expression::Number(word) | Expression::Variable(Var(word)) => {
+                self.words.push(*word)?;
+                Ok(())
+            }
+            Expression::Reckoned(_, a, b) => {
                 self.expression(a)?;
                 self.expression(b)
             }

@@ -1,8 +1,7 @@
 use crate::tree::{
-    Argument, Call, Expression, Mark, Node, Operator, Procedure, Program, Signature, Statement,
-    Transfer, Var,
+    Argument, Call, Expression, Mark, Node, Procedure, Program, Signature, Statement, Transfer, Var,
 };
-use crate::words::{Form, UnknownWord};
+use crate::words::{Form, Head, UnknownWord};
 use std::alloc::{AllocError, AllocFailed, Global};
 
 const MAX_WORDS: usize = 16384;
@@ -99,11 +98,10 @@ impl<'a> Reader<'a> {
     // An expression that may nest so deep.
     fn expression(&mut self, depth: u32) -> Result<Expression, Unread> {
         let inner = depth.checked_sub(1).ok_or(Unread::NoProgram)?;
-        match self.word()? {
-            0 => Ok(Expression::Number(self.word()?)),
-            1 => Ok(Expression::Variable(self.var()?)),
-            word => {
-                let operator = Operator::try_from(word)?;
+        match Head::try_from(self.word()?)? {
+            Head::Number => Ok(Expression::Number(self.word()?)),
+            Head::Variable => Ok(Expression::Variable(self.var()?)),
+            Head::Reckoned(operator) => {
                 let a = self.expression(inner)?;
                 let b = self.expression(inner)?;
                 Ok(Expression::Reckoned(operator, Box::new(self.heap, a)?, Box::new(self.heap, b)?))
