@@ -50,7 +50,7 @@ fn only_in(heap: Global, full: &Full, other: &Full) -> Result<Vec<Var>, AllocErr
 }
 
 impl<'a> Author<'a> {
-    pub fn role(&self) -> &'a Roles {
+    pub(crate) fn role(&self) -> &'a Roles {
         &self.scope.procedure.body
     }
 
@@ -58,12 +58,12 @@ impl<'a> Author<'a> {
         self.scope.procedure.signature.kind(x).unwrap_or(0)
     }
 
-    pub fn is_lent(&self, x: Var) -> bool {
+    pub(crate) fn is_lent(&self, x: Var) -> bool {
         self.scope.procedure.signature.is_lent(x)
     }
 
     // How many variables the procedure has.
-    pub fn variables(&self) -> usize {
+    pub(crate) fn variables(&self) -> usize {
         self.scope.procedure.signature.kinds.len()
     }
 

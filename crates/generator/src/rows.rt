@@ -9,7 +9,7 @@ pub struct Rows {
 }
 
 impl Rows {
-    pub fn new(heap: Global) -> Rows {
+    pub(crate) fn new(heap: Global) -> Rows {
         Rows {
             words: Vec::new(heap),
         }
@@ -86,7 +86,11 @@ impl Rows {
         }
     }
 
-    pub fn procedure(&mut self, signature: &Signature, body: &Statement) -> Result<(), AllocError> {
+    pub(crate) fn procedure(
+        &mut self,
+        signature: &Signature,
+        body: &Statement,
+    ) -> Result<(), AllocError> {
         self.signature(signature)?;
         self.statement(body)
     }

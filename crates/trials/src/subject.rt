@@ -36,7 +36,7 @@ pub struct Subject<'a> {
 }
 
 impl<'a> Subject<'a> {
-    pub fn read(heap: Global, rows: &'a [u32]) -> anyhow::Result<Subject<'a>> {
+    pub(crate) fn read(heap: Global, rows: &'a [u32]) -> anyhow::Result<Subject<'a>> {
         let verdict = match read_program(heap, rows) {
             Ok(program) => match keeps_rules(&program) {
                 Ok(()) => Verdict::Keeps(program),
@@ -53,13 +53,13 @@ impl<'a> Subject<'a> {
     }
 
     // What is said by `judge`, in so many work words.
-    pub fn judged(&self, words: usize) -> Result<Judged, AllocError> {
+    pub(crate) fn judged(&self, words: usize) -> Result<Judged, AllocError> {
         let mut work = vec![in self.heap; 0; words]?;
         Ok(judge(self.rows, work.as_mut_slice()))
     }
 
     // What is said by `go`, in so many work words.
-    pub fn gone(&self, allowed: Allowed, words: usize) -> Result<Ran, AllocError> {
+    pub(crate) fn gone(&self, allowed: Allowed, words: usize) -> Result<Ran, AllocError> {
         let mut work = vec![in self.heap; 0; words]?;
         let mut shown = vec![in self.heap; 0; allowed.room]?;
         Ok(go(
@@ -73,7 +73,11 @@ impl<'a> Subject<'a> {
     }
 
     // Runs its program by both, in no more work words than needed, and compares after every step.
-    pub fn run_both(&self, program: &Program, allowed: Allowed) -> Result<Trial, AllocError> {
+    pub(crate) fn run_both(
+        &self,
+        program: &Program,
+        allowed: Allowed,
+    ) -> Result<Trial, AllocError> {
         let mut work = vec![in self.heap; 0; allowed.floor(self.rows.len())]?;
         let mut shown = vec![in self.heap; 0; allowed.room]?;
         let mut watch = Watch::start(self.heap, program, allowed)?;
@@ -96,7 +100,7 @@ impl<'a> Subject<'a> {
     }
 
     // Whether `go` ends as the verdict here has it. What keeps the rules is run by both.
-    pub fn ends_so(&self, allowed: Allowed, ending: Ran) -> Result<bool, AllocError> {
+    pub(crate) fn ends_so(&self, allowed: Allowed, ending: Ran) -> Result<bool, AllocError> {
         match &self.verdict {
             Verdict::Keeps(program) => {
                 let trial = self.run_both(program, allowed)?;

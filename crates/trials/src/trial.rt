@@ -61,7 +61,7 @@ pub struct Allowed {
 
 impl Allowed {
     // The fewest work words that a run of so many words needs.
-    pub fn floor(self, words: usize) -> usize {
+    pub(crate) fn floor(self, words: usize) -> usize {
         let cells = (self.limits.cells as usize).saturating_mul(2);
         let calls = (self.limits.calls as usize).saturating_mul(512);
         judge_floor(words)
