@@ -50,7 +50,7 @@ fn only_in(heap: Global, full: &Full, other: &Full) -> Result<Vec<Var>, AllocErr
 }
 
 impl<'a> Author<'a> {
-    pub fn role(&self) -> &'a Roles {
+    pub(crate) fn role(&self) -> &'a Roles {
         &self.scope.procedure.body
     }
 
@@ -58,12 +58,12 @@ impl<'a> Author<'a> {
         self.scope.procedure.signature.kind(x).unwrap_or(0)
     }
 
-    pub fn is_lent(&self, x: Var) -> bool {
+    pub(crate) fn is_lent(&self, x: Var) -> bool {
         self.scope.procedure.signature.is_lent(x)
     }
 
     // How many variables the procedure has.
-    pub fn variables(&self) -> usize {
+    pub(crate) fn variables(&self) -> usize {
         self.scope.procedure.signature.kinds.len()
     }
 
@@ -76,13 +76,10 @@ impl<'a> Author<'a> {
 
     // A box variable that statements may name, or none.
     fn usable_box(&mut self) -> Option<Var> {
-        for _ in 0..TRIES {
+        (0..TRIES).find_map(|_| {
             let x = self.usable();
-            if self.kind(x) > 0 && !self.is_lent(x) {
-                return Some(x);
-            }
-        }
-        None
+            (self.kind(x) > 0 && !self.is_lent(x)).then_some(x)
+        })
     }
 
     // Whether it is time to break the rule in a way that a statement of this form can.
@@ -100,14 +97,15 @@ impl<'a> Author<'a> {
 
     // A constant or a number variable.
     fn operand(&mut self) -> Expression {
-        for _ in 0..4 {
-            let many = self.variables();
+        let many = self.variables();
+        let found = (0..4).find_map(|_| {
             let x = Var(self.rng.place(many));
-            if self.kind(x) == 0 && !self.rng.once_in(3) {
-                return Expression::Variable(x);
-            }
+            (self.kind(x) == 0 && !self.rng.once_in(3)).then_some(x)
+        });
+        match found {
+            Some(x) => Expression::Variable(x),
+            None => Expression::Number(self.constant()),
         }
-        Expression::Number(self.constant())
     }
 
     // An expression, of which so many places may have an operator, the first in rows first. Says how many are left.
@@ -151,13 +149,14 @@ impl<'a> Author<'a> {
 
     fn set(&mut self) -> Result<Statement, AllocError> {
         let scope = self.scope;
-        for _ in 0..TRIES {
+        let found = (0..TRIES).find_map(|_| {
             let x = self.usable();
-            if scope.set(x).is_ok() {
-                return Ok(Statement::Set(x, self.expression()?));
-            }
+            scope.set(x).is_ok().then_some(x)
+        });
+        match found {
+            Some(x) => Ok(Statement::Set(x, self.expression()?)),
+            None => Ok(Statement::Skip),
         }
-        Ok(Statement::Skip)
     }
 
     fn drop_box(&mut self) -> Statement {
@@ -178,15 +177,17 @@ impl<'a> Author<'a> {
     // A box made, opened, looked into, filled or moved.
     fn transfer(&mut self) -> Result<Statement, AllocError> {
         let what = drawn_transfer(self.rng);
-        for _ in 0..TRIES {
+        let found = (0..TRIES).find_map(|_| {
             let x = self.usable();
             let y = self.usable();
-            if let Ok(after) = self.scope.transfer(what, self.full, x, y) {
-                self.full = after;
-                return Ok(Statement::Between(what, x, y));
-            }
-        }
-        self.make_some()
+            let after = self.scope.transfer(what, self.full, x, y).ok()?;
+            Some((x, y, after))
+        });
+        let Some((x, y, after)) = found else {
+            return self.make_some();
+        };
+        self.full = after;
+        Ok(Statement::Between(what, x, y))
     }
 
     // A statement without branches of its own, or the broken one.
@@ -220,10 +221,10 @@ impl<'a> Author<'a> {
 
     // Gives back what is full in the first and not in the second, and ends with a skip.
     fn drops(&self, full: &Full, other: &Full) -> Result<Statement, AllocError> {
-        let mut drops = Vec::new(self.heap);
-        for x in only_in(self.heap, full, other)? {
-            drops.push(Statement::Drop(x))?;
-        }
+        let drops = only_in(self.heap, full, other)?
+            .into_iter()
+            .map(Statement::Drop)
+            .collect(self.heap)?;
         in_order(self.heap, drops, Statement::Skip)
     }
 

@@ -6,11 +6,11 @@ fn inner(heap: Global, statement: Statement) -> Result<Box<Node>, AllocError> {
     Ok(Box::new(heap, Node { at: 0, statement })?)
 }
 
-pub fn pair(heap: Global, s: Statement, t: Statement) -> Result<Statement, AllocError> {
+pub(crate) fn pair(heap: Global, s: Statement, t: Statement) -> Result<Statement, AllocError> {
     Ok(Statement::Then(inner(heap, s)?, inner(heap, t)?))
 }
 
-pub fn branch(
+pub(crate) fn branch(
     heap: Global,
     test: Expression,
     s: Statement,
@@ -19,11 +19,15 @@ pub fn branch(
     Ok(Statement::If(test, inner(heap, s)?, inner(heap, t)?))
 }
 
-pub fn repeated(heap: Global, test: Expression, s: Statement) -> Result<Statement, AllocError> {
+pub(crate) fn repeated(
+    heap: Global,
+    test: Expression,
+    s: Statement,
+) -> Result<Statement, AllocError> {
     Ok(Statement::While(test, inner(heap, s)?))
 }
 
-pub fn reckoned(
+pub(crate) fn reckoned(
     heap: Global,
     operator: Operator,
     a: Expression,
@@ -33,33 +37,25 @@ pub fn reckoned(
 }
 
 // Statements one after the other: each is paired with all behind it.
-pub fn in_order(
+pub(crate) fn in_order(
     heap: Global,
     statements: Vec<Statement>,
     last: Statement,
 ) -> Result<Statement, AllocError> {
-    let mut whole = last;
-    for statement in statements.into_iter().rev() {
-        whole = pair(heap, statement, whole)?;
-    }
-    Ok(whole)
+    let mut backward = statements.into_iter().rev();
+    backward.try_fold(last, |whole, statement| pair(heap, statement, whole))
 }
 
 // Statements one after the other: each is paired with all before it.
-pub fn in_order_leftward(
+pub(crate) fn in_order_leftward(
     heap: Global,
     statements: Vec<Statement>,
     last: Statement,
 ) -> Result<Statement, AllocError> {
-    let mut whole = None;
-    for statement in statements {
-        whole = Some(match whole {
-            Some(before) => pair(heap, before, statement)?,
-            None => statement,
-        });
-    }
-    match whole {
-        Some(before) => pair(heap, before, last),
-        None => Ok(last),
-    }
+    let mut forward = statements.into_iter();
+    let Some(first) = forward.next() else {
+        return Ok(last);
+    };
+    let whole = forward.try_fold(first, |whole, statement| pair(heap, whole, statement))?;
+    pair(heap, whole, last)
 }

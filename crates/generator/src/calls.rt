@@ -23,16 +23,11 @@ impl<'a> Author<'a> {
 
     // A variable to pass for an argument.
     fn argument(&mut self, mark: Mark, kind: u32, others: &[Argument]) -> Option<Argument> {
-        for _ in 0..TRIES {
-            let argument = Argument {
-                var: self.lendable(mark),
-                mark,
-            };
-            if self.fits(argument, kind, others) {
-                return Some(argument);
-            }
-        }
-        None
+        (0..TRIES).find_map(|_| {
+            let var = self.lendable(mark);
+            let argument = Argument { var, mark };
+            self.fits(argument, kind, others).then_some(argument)
+        })
     }
 
     // The fuel for a call: the procedure's own, if it has any, and one less for a call that may come back.
@@ -95,14 +90,15 @@ impl<'a> Author<'a> {
             procedure: f,
             arguments: self.arguments(f, called, &mut before)?,
         };
-        for _ in 0..TRIES {
+        let found = (0..TRIES).find_map(|_| {
             call.into = self.usable();
-            if let Ok(after) = self.scope.call(self.full, &call) {
-                self.full = after;
-                return in_order(self.heap, before, Statement::Call(call));
-            }
-        }
-        in_order(self.heap, before, Statement::Skip)
+            self.scope.call(self.full, &call).ok()
+        });
+        let Some(after) = found else {
+            return in_order(self.heap, before, Statement::Skip);
+        };
+        self.full = after;
+        in_order(self.heap, before, Statement::Call(call))
     }
 
     // A procedure to call: a later one, unless fuel keeps calls from going round for ever.

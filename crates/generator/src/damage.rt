@@ -30,9 +30,7 @@ pub fn damaged(rng: &mut Rng, heap: Global, rows: &[u32]) -> Result<Vec<u32>, Al
         6 => bad.truncate(rng.place(rows.len()) as usize),
         _ => {
             let more = rng.below(6).saturating_add(1);
-            for _ in 0..more {
-                bad.push(rng.below(3))?;
-            }
+            bad.extend((0..more).map(|_| rng.below(3)))?;
         }
     }
     Ok(bad)

@@ -9,7 +9,7 @@ pub enum Flaw {
 }
 
 impl Flaw {
-    pub fn broken(self) -> Option<Rule> {
+    pub(crate) fn broken(self) -> Option<Rule> {
         match self {
             Flaw::Broken(rule) => Some(rule),
             Flaw::Nothing | Flaw::Wanted(_) => None,

@@ -22,13 +22,14 @@ impl<'a> Author<'a> {
 
     // Mostly a variable of a kind.
     fn any_of(&mut self, kind: u32) -> Var {
-        for _ in 0..40 {
+        let found = (0..40).find_map(|_| {
             let x = self.any();
-            if self.scope.procedure.signature.kind(x) == Some(kind) {
-                return x;
-            }
+            (self.scope.procedure.signature.kind(x) == Some(kind)).then_some(x)
+        });
+        match found {
+            Some(x) => x,
+            None => self.any(),
         }
-        self.any()
     }
 
     fn candidate_set(&mut self) -> Candidate {

@@ -42,20 +42,17 @@ fn numbers(heap: Global, many: u32) -> Result<Signature, AllocError> {
 
 // Pairs in one another.
 fn pairs(heap: Global, depth: u32) -> Result<Statement, AllocError> {
-    let mut whole = Statement::Skip;
-    for _ in 1..depth {
-        whole = pair(heap, whole, Statement::Skip)?;
-    }
-    Ok(whole)
+    (1..depth).try_fold(Statement::Skip, |whole, _| {
+        pair(heap, whole, Statement::Skip)
+    })
 }
 
 // Sums in one another, in a statement.
 fn sums(heap: Global, depth: u32) -> Result<Statement, AllocError> {
-    let mut whole = Expression::Number(7);
-    for _ in 2..depth {
-        whole = reckoned(heap, Operator::Add, whole, Expression::Number(7))?;
-    }
-    Ok(Statement::Show(whole))
+    let sum = (2..depth).try_fold(Expression::Number(7), |whole, _| {
+        reckoned(heap, Operator::Add, whole, Expression::Number(7))
+    })?;
+    Ok(Statement::Show(sum))
 }
 
 // A call with so many arguments that there are this many words.

@@ -1,5 +1,5 @@
-use reference::tree::{Call, Expression, Signature, Statement};
-use reference::words::Form;
+use reference::tree::{Call, Expression, Signature, Statement, Var};
+use reference::words::{Form, Head};
 use std::alloc::{AllocError, Global};
 
 // A program's words, as far as they are written.
@@ -9,7 +9,7 @@ pub struct Rows {
 }
 
 impl Rows {
-    pub fn new(heap: Global) -> Rows {
+    pub(crate) fn new(heap: Global) -> Rows {
         Rows {
             words: Vec::new(heap),
         }
@@ -24,19 +24,20 @@ impl Rows {
         self.count(signature.kinds.len())?;
         self.words.extend_from_slice(signature.kinds.as_slice())?;
         self.count(signature.marks.len())?;
-        for mark in signature.marks.iter() {
-            self.words.push(u32::from(*mark))?;
-        }
+        let marks = signature.marks.iter().map(|mark| u32::from(*mark));
+        self.words.extend(marks)?;
         self.words.push(signature.result.0)?;
         Ok(())
     }
 
     fn expression(&mut self, e: &Expression) -> Result<(), AllocError> {
+        self.words.push(u32::from(Head::from(e)))?;
         match e {
-            Expression::Number(number) => self.words.extend_from_slice(&[0, *number]),
-            Expression::Variable(x) => self.words.extend_from_slice(&[1, x.0]),
-            Expression::Reckoned(operator, a, b) => {
-                self.words.push(u32::from(*operator))?;
+            Expression::Number(word) | Expression::Variable(Var(word)) => {
+                self.words.push(*word)?;
+                Ok(())
+            }
+            Expression::Reckoned(_, a, b) => {
                 self.expression(a)?;
                 self.expression(b)
             }
@@ -85,7 +86,11 @@ impl Rows {
         }
     }
 
-    pub fn procedure(&mut self, signature: &Signature, body: &Statement) -> Result<(), AllocError> {
+    pub(crate) fn procedure(
+        &mut self,
+        signature: &Signature,
+        body: &Statement,
+    ) -> Result<(), AllocError> {
         self.signature(signature)?;
         self.statement(body)
     }

@@ -14,6 +14,17 @@ pub enum Value {
     Empty,
 }
 
+impl Value {
+    // What a variable of a kind holds until something is put into it.
+    pub(crate) fn blank(kind: u32) -> Value {
+        if kind == 0 {
+            Value::Number(0)
+        } else {
+            Value::Empty
+        }
+    }
+}
+
 // What goes wrong in a careless program.
 #[derive(Clone, Copy, Debug, PartialEq, Eq)]
 pub enum Fault {

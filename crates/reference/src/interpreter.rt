@@ -218,21 +218,14 @@ impl<'a> Run<'a> {
             .get(procedure as usize)
             .ok_or(Fault::NoProcedure)?;
         self.take_turn()?;
-        let mut variables = Vec::new(self.heap);
-        for (x, kind) in opened.signature.kinds.iter().enumerate() {
-            let blank = if *kind == 0 {
-                Value::Number(0)
-            } else {
-                Value::Empty
-            };
-            variables.push(arguments.get(x).copied().unwrap_or(blank))?;
-        }
-        let mut to_do = Vec::new(self.heap);
-        to_do.push(&opened.body)?;
+        let kinds = opened.signature.kinds.iter().enumerate();
+        let variables = kinds
+            .map(|(x, kind)| arguments.get(x).copied().unwrap_or(Value::blank(*kind)))
+            .collect(self.heap)?;
         Ok(Frame {
             procedure,
             variables,
-            to_do,
+            to_do: vec![in self.heap; &opened.body]?,
             into: Var(0),
         })
     }

@@ -1,8 +1,7 @@
 use crate::tree::{
-    Argument, Call, Expression, Mark, Node, Operator, Procedure, Program, Signature, Statement,
-    Transfer, Var,
+    Argument, Call, Expression, Mark, Node, Procedure, Program, Signature, Statement, Transfer, Var,
 };
-use crate::words::{Form, UnknownWord};
+use crate::words::{Form, Head, UnknownWord};
 use std::alloc::{AllocError, AllocFailed, Global};
 
 const MAX_WORDS: usize = 16384;
@@ -75,14 +74,34 @@ impl<'a> Reader<'a> {
         Ok(Mark::try_from(self.word()?)?)
     }
 
+    fn argument(&mut self) -> Result<Argument, Unread> {
+        let var = self.var()?;
+        let mark = self.mark()?;
+        Ok(Argument { var, mark })
+    }
+
+    // So many of what is read in one way.
+    fn many<T: Drop, F: Fn(&mut Reader<'a>) -> Result<T, Unread>>(
+        &mut self,
+        count: u32,
+        read: F,
+    ) -> Result<Vec<T>, Unread>
+        requires { F.IsAlwaysCallable read }
+    {
+        let mut all = Vec::new(self.heap);
+        for _ in 0..count {
+            all.push(read(self)?)?;
+        }
+        Ok(all)
+    }
+
     // An expression that may nest so deep.
     fn expression(&mut self, depth: u32) -> Result<Expression, Unread> {
         let inner = depth.checked_sub(1).ok_or(Unread::NoProgram)?;
-        match self.word()? {
-            0 => Ok(Expression::Number(self.word()?)),
-            1 => Ok(Expression::Variable(self.var()?)),
-            word => {
-                let operator = Operator::try_from(word)?;
+        match Head::try_from(self.word()?)? {
+            Head::Number => Ok(Expression::Number(self.word()?)),
+            Head::Variable => Ok(Expression::Variable(self.var()?)),
+            Head::Reckoned(operator) => {
                 let a = self.expression(inner)?;
                 let b = self.expression(inner)?;
                 Ok(Expression::Reckoned(operator, Box::new(self.heap, a)?, Box::new(self.heap, b)?))
@@ -99,13 +118,8 @@ impl<'a> Reader<'a> {
     fn call(&mut self) -> Result<Call, Unread> {
         let into = self.var()?;
         let procedure = self.word()?;
-        let many = self.word()?;
-        let mut arguments = Vec::new(self.heap);
-        for _ in 0..many {
-            let var = self.var()?;
-            let mark = self.mark()?;
-            arguments.push(Argument { var, mark })?;
-        }
+        let count = self.word()?;
+        let arguments = self.many(count, |reader| reader.argument())?;
         Ok(Call {
             into,
             procedure,
@@ -148,16 +162,10 @@ impl<'a> Reader<'a> {
     }
 
     fn signature(&mut self) -> Result<Signature, Unread> {
-        let mut kinds = Vec::new(self.heap);
         let variables = self.word_to(MAX_VARIABLES)?;
-        for _ in 0..variables {
-            kinds.push(self.word_to(MAX_KIND)?)?;
-        }
-        let mut marks = Vec::new(self.heap);
+        let kinds = self.many(variables, |reader| reader.word_to(MAX_KIND))?;
         let arguments = self.word_to(MAX_ARGUMENTS.min(variables))?;
-        for _ in 0..arguments {
-            marks.push(self.mark()?)?;
-        }
+        let marks = self.many(arguments, |reader| reader.mark())?;
         let result = self.var()?;
         Ok(Signature {
             kinds,

@@ -274,11 +274,11 @@ impl<'a, B> Scope<'a, B> {
             return Err(Rule::ArgumentCount);
         }
         self.once_each(call.arguments.as_slice())?;
-        let mut after = full;
         let wanted = called.marks.iter().zip(called.kinds.iter());
-        for (a, (mark, kind)) in call.arguments.iter().zip(wanted) {
-            after = self.argument(after, *a, *mark, *kind)?;
-        }
+        let mut given = call.arguments.iter().zip(wanted);
+        let mut after = given.try_fold(full, |after, (a, (mark, kind))| {
+            self.argument(after, *a, *mark, *kind)
+        })?;
         self.result_into(call, called.kind(called.result))?;
         after.add(call.into);
         Ok(after)

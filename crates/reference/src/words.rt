@@ -1,4 +1,4 @@
-use crate::tree::{Mark, Operator, Statement, Transfer};
+use crate::tree::{Expression, Mark, Operator, Statement, Transfer};
 use std::fmt;
 
 // A word that stands for nothing of the sort that is read.
@@ -127,26 +127,48 @@ impl TryFrom<u32> for Mark {
     }
 }
 
-impl From<Operator> for u32 {
-    fn from(operator: Operator) -> u32 {
-        match operator {
-            Operator::Add => 2,
-            Operator::Subtract => 3,
-            Operator::Multiply => 4,
-            Operator::Less => 5,
+// What an expression begins with.
+#[derive(Clone, Copy, Debug, PartialEq, Eq)]
+pub enum Head {
+    Number,
+    Variable,
+    Reckoned(Operator),
+}
+
+impl From<&Expression> for Head {
+    fn from(e: &Expression) -> Head {
+        match e {
+            Expression::Number(_) => Head::Number,
+            Expression::Variable(_) => Head::Variable,
+            Expression::Reckoned(operator, _, _) => Head::Reckoned(*operator),
         }
     }
 }
 
-impl TryFrom<u32> for Operator {
+impl From<Head> for u32 {
+    fn from(head: Head) -> u32 {
+        match head {
+            Head::Number => 0,
+            Head::Variable => 1,
+            Head::Reckoned(Operator::Add) => 2,
+            Head::Reckoned(Operator::Subtract) => 3,
+            Head::Reckoned(Operator::Multiply) => 4,
+            Head::Reckoned(Operator::Less) => 5,
+        }
+    }
+}
+
+impl TryFrom<u32> for Head {
     type Error = UnknownWord;
 
-    fn try_from(word: u32) -> Result<Operator, UnknownWord> {
+    fn try_from(word: u32) -> Result<Head, UnknownWord> {
         match word {
-            2 => Ok(Operator::Add),
-            3 => Ok(Operator::Subtract),
-            4 => Ok(Operator::Multiply),
-            5 => Ok(Operator::Less),
+            0 => Ok(Head::Number),
+            1 => Ok(Head::Variable),
+            2 => Ok(Head::Reckoned(Operator::Add)),
+            3 => Ok(Head::Reckoned(Operator::Subtract)),
+            4 => Ok(Head::Reckoned(Operator::Multiply)),
+            5 => Ok(Head::Reckoned(Operator::Less)),
             _ => Err(UnknownWord(word)),
         }
     }

@@ -76,10 +76,11 @@ impl<'s, 'm, 'r> Step<'s, 'm, 'r> {
     fn variables(&mut self, frame: &Frame, base: usize) -> Result<(), Difference> {
         let procedure = self.program.procedures.get(frame.procedure as usize);
         let kinds = &procedure.ok_or(Difference::Variable)?.signature.kinds;
-        for (x, kind) in kinds.iter().enumerate() {
-            let word = frame_word(self.machine, base.saturating_add(x));
-            let value = frame.variables.get(x).copied().unwrap_or(Value::Empty);
-            self.value(*kind, word.ok_or(Difference::Variable)?, value)?;
+        ensure(frame.variables.len() == kinds.len(), Difference::Variable)?;
+        let held = kinds.iter().zip(frame.variables.iter());
+        for (at, (kind, value)) in (base..).zip(held) {
+            let word = frame_word(self.machine, at).ok_or(Difference::Variable)?;
+            self.value(*kind, word, *value)?;
         }
         Ok(())
     }
@@ -98,14 +99,13 @@ impl<'s, 'm, 'r> Step<'s, 'm, 'r> {
 
     fn callers(&mut self) -> Result<(), Difference> {
         let run = self.run;
-        let mut base = FRAME;
-        for frame in run.callers.iter() {
+        for (base, frame) in (FRAME..).step_by(FRAME).zip(run.callers.iter()) {
             let same = self.variables(frame, base);
             same.map_err(|_| Difference::Caller)?;
             self.control(frame, base)?;
-            base = base.saturating_add(FRAME);
         }
-        ensure(base == self.machine.base, Difference::Caller)
+        let end = FRAME.saturating_mul(run.open_calls());
+        ensure(self.machine.base == end, Difference::Caller)
     }
 
     // What variables hold. Every box is found from one, and every cell that is not free is a box.

@@ -49,7 +49,7 @@ impl Counts {
         }
     }
 
-    pub fn keep(&mut self) {
+    pub(crate) fn keep(&mut self) {
         bump(&mut self.kept);
     }
 

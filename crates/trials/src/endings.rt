@@ -14,7 +14,7 @@ pub struct Endings {
 }
 
 impl Endings {
-    pub fn new() -> Endings {
+    pub(crate) fn new() -> Endings {
         Endings {
             done: 0,
             full: 0,
@@ -40,12 +40,12 @@ impl Endings {
         }
     }
 
-    pub fn count(&mut self, ending: Ran) {
+    pub(crate) fn count(&mut self, ending: Ran) {
         let counter = self.counter(ending);
         *counter = counter.saturating_add(1);
     }
 
-    pub fn named(&self) -> [(&'static str, u32); 8] {
+    pub(crate) fn named(&self) -> [(&'static str, u32); 8] {
         [
             ("done", self.done),
             ("full", self.full),

@@ -6,22 +6,21 @@ mod endings;
 mod memory;
 mod owners;
 mod report;
+mod subject;
 mod trial;
 
-use anyhow::anyhow;
 use count::Counts;
 use generator::damage::damaged;
 use generator::draft::{Draft, generate};
 use generator::limits::{AT_LIMITS, rows_at_limit};
 use generator::rng::Rng;
 use interpreter::Ran;
-use owned::{Judged, judge};
+use owned::Judged;
 use reference::interpreter::Limits;
-use reference::reader::{Unread, read_program};
-use reference::rules::{Rule, keeps_rules};
+use reference::rules::Rule;
 use reference::tree::Program;
 use report::{print_answers, print_programs};
-use std::alloc::{AllocError, Global};
+use subject::{Subject, Verdict};
 use trial::{Allowed, drawn_limits, drawn_room, judge_floor, run_alone};
 
 const PROGRAMS: u32 = 500;
@@ -39,43 +38,6 @@ const CARELESS: Limits = Limits {
     calls: 100,
     turns: 3000,
 };
-
-// What is said of rows by the reader and the rules here.
-#[derive(Drop)]
-enum Verdict {
-    Keeps(Program),
-    Breaks(Program, Rule),
-    NoProgram,
-}
-
-// What `judge` should say.
-impl From<&Verdict> for Judged {
-    fn from(verdict: &Verdict) -> Judged {
-        match verdict {
-            Verdict::Keeps(_) => Judged::Keeps,
-            Verdict::Breaks(_, _) => Judged::Careless,
-            Verdict::NoProgram => Judged::NoProgram,
-        }
-    }
-}
-
-fn own_verdict(heap: Global, rows: &[u32]) -> anyhow::Result<Verdict> {
-    let program = match read_program(heap, rows) {
-        Ok(program) => program,
-        Err(Unread::NoProgram) => return Ok(Verdict::NoProgram),
-        Err(Unread::NoMemory) => return Err(anyhow!("no memory")),
-    };
-    match keeps_rules(&program) {
-        Ok(()) => Ok(Verdict::Keeps(program)),
-        Err(rule) => Ok(Verdict::Breaks(program, rule)),
-    }
-}
-
-// What is said by `judge`, in so many work words.
-fn judged(heap: Global, rows: &[u32], words: usize) -> Result<Judged, AllocError> {
-    let mut work = vec![in heap; 0; words]?;
-    Ok(judge(rows, work.as_mut_slice()))
-}
 
 // The rule that a program is to break: every second program breaks one, each in its turn.
 fn wanted(seed: u32) -> Option<Rule> {
@@ -101,7 +63,7 @@ impl<'a> Trials<'a> {
     }
 
     // Runs a program that keeps the rules with all numbers of cells.
-    fn try_kept(&mut self, seed: u32, rows: &[u32], program: &Program) -> anyhow::Result<()> {
+    fn try_kept(&mut self, seed: u32, subject: &Subject, program: &Program) -> anyhow::Result<()> {
         let rt = self.rt;
         let mut rng = Rng::new(seed.wrapping_add(PROGRAMS));
         self.counts.keep();
@@ -110,7 +72,7 @@ impl<'a> Trials<'a> {
                 limits: drawn_limits(&mut rng, cells),
                 room: drawn_room(&mut rng),
             };
-            let trial = allowed.run_both(rt.alloc(), rows, program)?;
+            let trial = subject.run_both(program, allowed)?;
             self.counts.add(&trial);
             if let Some(difference) = trial.difference {
                 self.counts.differ();
@@ -122,16 +84,11 @@ impl<'a> Trials<'a> {
     }
 
     // Runs a program made for a seed. Gives the rule that it breaks, if it does.
-    fn try_verdict(
-        &mut self,
-        seed: u32,
-        rows: &[u32],
-        verdict: &Verdict,
-    ) -> anyhow::Result<Option<Rule>> {
+    fn try_verdict(&mut self, seed: u32, subject: &Subject) -> anyhow::Result<Option<Rule>> {
         let rt = self.rt;
-        match verdict {
+        match &subject.verdict {
             Verdict::Keeps(program) => {
-                self.try_kept(seed, rows, program)?;
+                self.try_kept(seed, subject, program)?;
                 Ok(None)
             }
             Verdict::Breaks(program, rule) => {
@@ -149,14 +106,13 @@ impl<'a> Trials<'a> {
     // A program made for a seed, judged by both and run.
     fn try_program(&mut self, seed: u32, draft: &Draft) -> anyhow::Result<()> {
         let rt = self.rt;
-        let heap = rt.alloc();
-        let rows = draft.rows.as_slice();
-        let own = own_verdict(heap, rows)?;
-        if judged(heap, rows, judge_floor(rows.len()))? != Judged::from(&own) {
+        let subject = Subject::read(rt.alloc(), draft.rows.as_slice())?;
+        let enough = judge_floor(subject.rows.len());
+        if subject.judged(enough)? != Judged::from(&subject.verdict) {
             self.counts.differ();
             println!(rt; "seed {seed}: judged otherwise")?;
         }
-        if self.try_verdict(seed, rows, &own)? != draft.broken {
+        if self.try_verdict(seed, &subject)? != draft.broken {
             self.counts.differ();
             println!(rt; "seed {seed}: another rule is broken")?;
         }
@@ -166,22 +122,21 @@ impl<'a> Trials<'a> {
     // Rows with exactly the work words that are needed, and with one fewer.
     fn try_rows(&mut self, number: u32, rows: &[u32]) -> anyhow::Result<()> {
         let rt = self.rt;
-        let heap = rt.alloc();
         let mut rng = Rng::new(number.wrapping_add(9000));
         let cells = rng.below(CELLS.saturating_add(1));
         let allowed = Allowed {
             limits: drawn_limits(&mut rng, cells),
             room: ROOM,
         };
-        let own = own_verdict(heap, rows)?;
+        let subject = Subject::read(rt.alloc(), rows)?;
         let enough = judge_floor(rows.len());
         let needed = allowed.floor(rows.len());
-        let ending = allowed.gone(heap, rows, needed)?;
+        let ending = subject.gone(allowed, needed)?;
         self.counts.endings.count(ending);
-        let same = judged(heap, rows, enough)? == Judged::from(&own)
-            && judged(heap, rows, enough.saturating_sub(1))? == Judged::Few
-            && allowed.gone(heap, rows, needed.saturating_sub(1))? == Ran::Small
-            && same_ending(heap, rows, &own, allowed, ending)?;
+        let same = subject.judged(enough)? == Judged::from(&subject.verdict)
+            && subject.judged(enough.saturating_sub(1))? == Judged::Few
+            && subject.gone(allowed, needed.saturating_sub(1))? == Ran::Small
+            && subject.ends_so(allowed, ending)?;
         if !same {
             self.counts.differ();
             println!(rt; "rows {number}: answered otherwise")?;
@@ -198,24 +153,6 @@ impl<'a> Trials<'a> {
             self.try_rows(number, bad.as_slice())?;
         }
         Ok(())
-    }
-}
-
-// Whether `go` ends as the verdict here has it. What keeps the rules is run by both.
-fn same_ending(
-    heap: Global,
-    rows: &[u32],
-    own: &Verdict,
-    allowed: Allowed,
-    ending: Ran,
-) -> Result<bool, AllocError> {
-    match own {
-        Verdict::Keeps(program) => {
-            let trial = allowed.run_both(heap, rows, program)?;
-            Ok(trial.ending == ending && trial.difference.is_none())
-        }
-        Verdict::Breaks(_, _) => Ok(ending == Ran::Unkept),
-        Verdict::NoProgram => Ok(ending == Ran::Unread),
     }
 }
 

@@ -1,6 +1,7 @@
 use interpreter::Machine;
 
-// A word of the frames.
+// A word of the frames. It and a cell are read by functions of their own, since words that the machine may write are lent
+// on only from a parameter.
 pub fn frame_word(machine: &Machine, at: usize) -> Option<u32> {
     machine.frames.get(at).copied()
 }

@@ -24,7 +24,7 @@ impl Owners {
     }
 
     // Notes that a cell is this box. It is no other.
-    pub fn note(&mut self, cell: u32, name: Name) -> bool {
+    pub(crate) fn note(&mut self, cell: u32, name: Name) -> bool {
         self.names
             .get_mut(cell as usize)
             .is_some_and(|place| *place.get_or_insert(name) == name)

@@ -1,10 +1,10 @@
-use crate::compare::{Difference, Watch};
+use crate::compare::Difference;
 use generator::rng::Rng;
-use interpreter::{Ran, go, go_observed};
+use interpreter::Ran;
 use reference::interpreter::{Limits, Run, Stop};
 use reference::tally::Tally;
 use reference::tree::Program;
-use std::alloc::{AllocError, Global};
+use std::alloc::Global;
 
 // More steps no run takes, within the turns of a trial.
 const STEPS: u32 = 10_000_000;
@@ -61,54 +61,12 @@ pub struct Allowed {
 
 impl Allowed {
     // The fewest work words that a run of so many words needs.
-    pub fn floor(self, words: usize) -> usize {
+    pub(crate) fn floor(self, words: usize) -> usize {
         let cells = (self.limits.cells as usize).saturating_mul(2);
         let calls = (self.limits.calls as usize).saturating_mul(512);
         judge_floor(words)
             .saturating_add(cells)
             .saturating_add(calls)
-    }
-
-    // What is said by `go`, in so many work words.
-    pub fn gone(self, heap: Global, rows: &[u32], words: usize) -> Result<Ran, AllocError> {
-        let mut work = vec![in heap; 0; words]?;
-        let mut shown = vec![in heap; 0; self.room]?;
-        Ok(go(
-            rows,
-            self.limits.cells,
-            self.limits.calls,
-            self.limits.turns,
-            shown.as_mut_slice(),
-            work.as_mut_slice(),
-        ))
-    }
-
-    // Runs a program by both, in no more work words than needed, and compares after every step.
-    pub fn run_both(
-        self,
-        heap: Global,
-        rows: &[u32],
-        program: &Program,
-    ) -> Result<Trial, AllocError> {
-        let mut work = vec![in heap; 0; self.floor(rows.len())]?;
-        let mut shown = vec![in heap; 0; self.room]?;
-        let mut watch = Watch::start(heap, program, self)?;
-        let ending = go_observed(
-            rows,
-            self.limits.cells,
-            self.limits.calls,
-            self.limits.turns,
-            shown.as_mut_slice(),
-            work.as_mut_slice(),
-            &mut watch,
-        );
-        watch.conclude(ending, shown.as_slice());
-        Ok(Trial {
-            ending,
-            steps: watch.steps,
-            tally: watch.run.tally,
-            difference: watch.difference,
-        })
     }
 }
 
