@@ -1,10 +1,7 @@
 #![tactic(auto)]
 
 use input::read_numbers;
-use owned::{Judged, MAX_WORDS, judge};
-
-// Enough work words for the longest program.
-const WORK_WORDS: usize = 8192 + 4 * (MAX_WORDS + 1);
+use owned::{Judged, MAX_WORDS, WORK_WORDS, judge};
 
 // How many words are judged in all, so that a run takes long beside its start.
 const TOTAL: usize = 1 << 24;

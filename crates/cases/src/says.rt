@@ -1,5 +1,5 @@
 // What judge says of rows, with work words for the longest program.
-use owned::{Judged, MAX_WORDS, judge};
+use owned::{Judged, WORK_WORDS, judge};
 use std::alloc::{AllocError, Global};
 
 // With so many work words.
@@ -9,7 +9,7 @@ pub fn says_in(heap: Global, rows: &[u32], words: usize) -> Result<Judged, Alloc
 }
 
 pub fn says(heap: Global, rows: &[u32]) -> Result<Judged, AllocError> {
-    says_in(heap, rows, 8192 + 4 * (MAX_WORDS + 1))
+    says_in(heap, rows, WORK_WORDS)
 }
 
 pub fn is_program(heap: Global, rows: &[u32]) -> Result<bool, AllocError> {

@@ -2,7 +2,7 @@
 
 use anyhow::{Context, bail, ensure};
 use input::parse_numbers;
-use interpreter::{Ran, go};
+use interpreter::{Ran, go, work_words};
 use owned::MAX_WORDS;
 use std::io::{BufRead, BufReader};
 
@@ -56,8 +56,7 @@ fn ending(rt: &HostRuntime, limits: &[u32], program: &[u32]) -> anyhow::Result<S
         cells <= MOST && depth <= MOST && room <= MOST && program.len() <= MAX_WORDS,
         "a line asks for too much"
     );
-    let words = 8192 + 4 * program.len() + 2 * cells as usize + 512 * depth as usize;
-    let mut work = vec![in rt.alloc(); 0; words]?;
+    let mut work = vec![in rt.alloc(); 0; work_words(program.len(), cells, depth)]?;
     let mut shown = vec![in rt.alloc(); 0; room as usize]?;
     let ran = go(
         program,

@@ -3,4 +3,4 @@
 mod outcome;
 
 pub use machine::{Halt, Machine, Observer, Progress};
-pub use outcome::{Ran, go, go_observed};
+pub use outcome::{Ran, go, go_observed, work_words};

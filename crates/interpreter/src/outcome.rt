@@ -1,10 +1,10 @@
-ghost use Rattle.std.specs.Prelude.{◌≡◌, ◌+◌, ◌*◌, ◌≤◌, length, nat_le};
+ghost use Rattle.std.specs.Prelude.{◌≡◌, ◌+◌, ◌*◌, ◌^◌, ◌<◌, ◌≤◌, length, nat_le};
 ghost use Rattle.interpreter.specs.Going.{GoPost, CanGo, Went, stopped_by, ended, named};
 
 use linker::{PROC_WORDS, link};
 use machine::{Cells, Halt, Machine, Observer, Tables};
 use owned::cells::FreeCells;
-use owned::{Judged, judge};
+use owned::{Judged, enough as is_enough, judge};
 use std::fmt;
 
 // How a run came out: the result, how many numbers were shown, the turns left; or why there is none.
@@ -139,8 +139,17 @@ fn run_kept<O: Observer>(
 fn enough(words: usize, limits: Limits, work: usize) -> bool
     ensures { result ≡ nat_le (8192 + 4 * words + (2 * limits.cells + 512 * limits.depth)) work }
 {
-    let run = 8192 + 2 * limits.cells as usize + 512 * limits.depth as usize;
-    work >= run && (work - run) / 4 >= words
+    let run = 2 * limits.cells as usize + 512 * limits.depth as usize;
+    work >= run && is_enough(words, work - run)
+}
+
+// The work words that running so many words asks for, on so many cells and with so many open calls.
+pub fn work_words(words: usize, cells: u32, depth: u32) -> usize
+    ensures { words < 2 ^ 61 → result ≡ 8192 + 4 * words + (2 * cells + 512 * depth) }
+{
+    words
+        .saturating_mul(4)
+        .saturating_add(8192 + 2 * cells as usize + 512 * depth as usize)
 }
 
 // Runs a program that keeps the rules, on so many cells, with so many calls open at once and so many turns. The limits

@@ -1,10 +1,7 @@
 #![tactic(auto)]
 
 use input::{Exit, read_numbers};
-use owned::{MAX_WORDS, judge};
-
-// Enough work words for the longest program.
-const WORK_WORDS: usize = 8192 + 4 * (MAX_WORDS + 1);
+use owned::{MAX_WORDS, WORK_WORDS, judge};
 
 // Reads rows from standard input and says whether they are a program that keeps the rules.
 fn judge_input(rt: &HostRuntime) -> anyhow::Result<()> {

@@ -1,5 +1,5 @@
 -- The theorems, as types, and what the public calls promise.
-use Rattle.std.specs.Prelude.{◌≡◌, ℕ, suc, ◌+◌, ◌*◌, ◌<◌, ◌≤◌, true, false, ◌↔◌, List, [], ◌∷◌, length, ◌≢◌}
+use Rattle.std.specs.Prelude.{◌≡◌, ℕ, suc, ◌+◌, ◌*◌, ◌<◌, ◌≤◌, true, false, ◌↔◌, List, [], ◌∷◌, length, codes, ◌≢◌}
 use Rattle.owned.specs.declared.Judged.{Judged}
 use Rattle.owned.specs.declared.Judged.TheVariants.{Keeps, Careless, NoProgram, Few}
 use Rattle.owned.specs.Program.{S, Sig, Prog}
@@ -116,6 +116,13 @@ JudgedSays s Keeps = (g : Prog) × Rows s g × (kept g ≡ true)
 JudgedSays s Careless = (g : Prog) × Rows s g × (kept g ≡ false)
 JudgedSays s NoProgram = (g : Prog) → Rows s g → ⊥
 JudgedSays s Few = Unit {0}
+
+-- the words for each answer
+abbrev pub named : Judged → List ℕ
+named Keeps = codes "keeps"
+named Careless = codes "careless"
+named NoProgram = codes "no program"
+named Few = codes "few"
 
 -- how many work words judging asks for
 abbrev pub floor : List ℕ → ℕ

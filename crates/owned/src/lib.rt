@@ -1,7 +1,7 @@
 #![tactic(auto)]
 
 ghost use Rattle.std.specs.Prelude.{◌≡◌, ◌+◌, ◌*◌, length, nat_le};
-ghost use Rattle.owned.specs.Says.{JudgedPost};
+ghost use Rattle.owned.specs.Says.{JudgedPost, named};
 
 pub mod cells;
 mod checker;
@@ -26,14 +26,23 @@ pub enum Judged {
     Few,
 }
 
-impl fmt::Display for Judged {
-    fn fmt<W: fmt::Write>(&self, f: &mut fmt::Formatter<W>) -> fmt::Result {
-        f.write_str(match self {
+impl Judged {
+    // The words for it.
+    pub fn name(self) -> &'static str
+        ensures { result.now ≡ named self }
+    {
+        match self {
             Self::Keeps => "keeps",
             Self::Careless => "careless",
             Self::NoProgram => "no program",
             Self::Few => "few",
-        })
+        }
+    }
+}
+
+impl fmt::Display for Judged {
+    fn fmt<W: fmt::Write>(&self, f: &mut fmt::Formatter<W>) -> fmt::Result {
+        f.write_str(self.name())
     }
 }
 

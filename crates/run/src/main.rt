@@ -2,7 +2,7 @@
 
 use anyhow::anyhow;
 use input::{Exit, read_numbers};
-use interpreter::{Ran, go};
+use interpreter::{Ran, go, work_words};
 use options::{Options, Parser, Request};
 use owned::MAX_WORDS;
 use std::env;
@@ -31,11 +31,6 @@ that are no numbers are reported on standard error, and the status is 1.";
 
 // How many numbers may be shown.
 const ROOM: usize = 16_384;
-
-// The work words that a run is given: what `go` asks for.
-fn work_words(words: usize, options: Options) -> usize {
-    8192 + 4 * words.min(MAX_WORDS + 1) + 2 * options.cells as usize + 512 * options.depth as usize
-}
 
 // What the words after the program's name ask for.
 fn request(rt: &HostRuntime) -> anyhow::Result<Request> {
@@ -68,7 +63,7 @@ fn report(rt: &HostRuntime, ran: Ran, shown: &[u32]) -> anyhow::Result<()> {
 // Runs the rows on standard input.
 fn run_input(rt: &HostRuntime, options: Options) -> anyhow::Result<()> {
     let rows = read_numbers(rt.alloc(), &mut rt.stdin(), MAX_WORDS)?;
-    let mut work = vec![in rt.alloc(); 0; work_words(rows.len(), options)]?;
+    let mut work = vec![in rt.alloc(); 0; work_words(rows.len(), options.cells, options.depth)]?;
     let mut shown = vec![in rt.alloc(); 0; ROOM]?;
     let ran = go(
         rows.as_slice(),

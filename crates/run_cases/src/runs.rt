@@ -1,7 +1,5 @@
 // Runs at the floor of work memory, runs that leave the numbers shown alone, and deep ones.
-ghost use Rattle.std.specs.Prelude.{◌≡◌, ◌+◌, ◌*◌, ◌^◌, ◌<◌};
-
-use interpreter::{Ran, go};
+use interpreter::{Ran, go, work_words};
 use std::alloc::{AllocError, Global};
 use std::test::Fail;
 
@@ -17,14 +15,6 @@ const COUNTING: [u32; 49] = [
     3, 1, 0, 0, 1, 11, 1, 1, 1, 2, 0, 0, 2, 1, 2, 1, 1, 0, 1,
 ];
 
-// The work words that are asked for.
-const fn floor(words: usize, cells: usize, depth: usize) -> usize
-    requires { (words < 2 ^ 32) × ((cells < 2 ^ 32) × (depth < 2 ^ 32)) }
-    ensures { result ≡ 8192 + 4 * words + 2 * cells + 512 * depth }
-{
-    8192 + 4 * words + 2 * cells + 512 * depth
-}
-
 // The word for how a run ends on 3 cells, with 2 open calls and so many work words.
 fn ends(
     heap: Global,
@@ -38,7 +28,7 @@ fn ends(
 
 #[test]
 fn floor_of_work_words(rt: HostRuntime) -> Result<(), Fail> {
-    let floor = floor(SHOWING.len(), 3, 2);
+    let floor = work_words(SHOWING.len(), 3, 2);
     let mut shown = [9; 2];
     assert_eq!(rt; ends(rt.alloc(), &SHOWING, &mut shown, floor - 1)?, "small");
     assert_eq!(rt; shown[0], 9);
@@ -64,7 +54,7 @@ fn not_run(rt: HostRuntime) -> Result<(), Fail> {
 
 // The result of a run with so many open calls.
 fn counted(heap: Global, depth: u32) -> Result<Ran, AllocError> {
-    let mut work = vec![in heap; 0; floor(COUNTING.len(), 0, depth as usize)]?;
+    let mut work = vec![in heap; 0; work_words(COUNTING.len(), 0, depth)]?;
     Ok(go(&COUNTING, 0, depth, 100_000, &mut [], work.as_mut_slice()))
 }
 

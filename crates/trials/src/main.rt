@@ -14,14 +14,14 @@ use generator::damage::damaged;
 use generator::draft::{Draft, generate};
 use generator::limits::{AT_LIMITS, rows_at_limit};
 use generator::rng::Rng;
-use interpreter::Ran;
+use interpreter::{Ran, work_words};
 use owned::Judged;
 use reference::interpreter::Limits;
 use reference::rules::Rule;
 use reference::tree::Program;
 use report::{print_answers, print_programs};
 use subject::{Subject, Verdict};
-use trial::{Allowed, drawn_limits, drawn_room, judge_floor, run_alone};
+use trial::{Allowed, drawn_limits, drawn_room, run_alone};
 
 const PROGRAMS: u32 = 500;
 
@@ -107,7 +107,7 @@ impl<'a> Trials<'a> {
     fn try_program(&mut self, seed: u32, draft: &Draft) -> anyhow::Result<()> {
         let rt = self.rt;
         let subject = Subject::read(rt.alloc(), draft.rows.as_slice())?;
-        let enough = judge_floor(subject.rows.len());
+        let enough = work_words(subject.rows.len(), 0, 0);
         if subject.judged(enough)? != Judged::from(&subject.verdict) {
             self.counts.differ();
             println!(rt; "seed {seed}: judged otherwise")?;
@@ -129,7 +129,7 @@ impl<'a> Trials<'a> {
             room: ROOM,
         };
         let subject = Subject::read(rt.alloc(), rows)?;
-        let enough = judge_floor(rows.len());
+        let enough = work_words(rows.len(), 0, 0);
         let needed = allowed.floor(rows.len());
         let ending = subject.gone(allowed, needed)?;
         self.counts.endings.count(ending);

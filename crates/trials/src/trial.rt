@@ -1,6 +1,6 @@
 use crate::compare::Difference;
 use generator::rng::Rng;
-use interpreter::Ran;
+use interpreter::{Ran, work_words};
 use reference::interpreter::{Limits, Run, Stop};
 use reference::tally::Tally;
 use reference::tree::Program;
@@ -16,11 +16,6 @@ pub struct Trial {
     pub steps: u64,
     pub tally: Tally,
     pub difference: Option<Difference>,
-}
-
-// The fewest work words that judging so many words needs.
-pub fn judge_floor(words: usize) -> usize {
-    words.saturating_mul(4).saturating_add(8192)
 }
 
 // Limits with so many cells: small and large numbers of calls and turns.
@@ -62,11 +57,7 @@ pub struct Allowed {
 impl Allowed {
     // The fewest work words that a run of so many words needs.
     pub(crate) fn floor(self, words: usize) -> usize {
-        let cells = (self.limits.cells as usize).saturating_mul(2);
-        let calls = (self.limits.calls as usize).saturating_mul(512);
-        judge_floor(words)
-            .saturating_add(cells)
-            .saturating_add(calls)
+        work_words(words, self.limits.cells, self.limits.calls)
     }
 }
 
