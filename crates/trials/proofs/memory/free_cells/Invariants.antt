@@ -3,4 +3,4 @@ use Rattle.std.proofs.Common.{◌-◌}
 use Rattle.trials.proofs.memory.free_cells.Given as goal
 
 abbrev pub decreases-loop-at : goal.decreases-loop-at
-decreases-loop-at l = l.machine.cells - l.at
+decreases-loop-at l = l.machine.cells.free.cells - l.at
