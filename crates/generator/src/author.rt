@@ -200,6 +200,7 @@ impl<'a> Author<'a> {
             return Ok(statement);
         }
         self.wait = self.wait.saturating_sub(1);
+        // The arms are the weights of the draw.
         match self.rng.below(24) {
             0 => Ok(Statement::Skip),
             1..=2 => self.set(),
@@ -212,6 +213,7 @@ impl<'a> Author<'a> {
     }
 
     fn choose(&mut self) -> Choice {
+        // The arms are the weights of the draw.
         match self.rng.below(7) {
             0 => Choice::Branch,
             1 => Choice::Loop,
@@ -364,6 +366,7 @@ impl<'a> Author<'a> {
 }
 
 fn drawn_operator(rng: &mut Rng) -> Operator {
+    // A table of the four would be indexed, and its bound shown.
     match rng.below(4) {
         0 => Operator::Add,
         1 => Operator::Subtract,
@@ -373,6 +376,7 @@ fn drawn_operator(rng: &mut Rng) -> Operator {
 }
 
 pub fn drawn_transfer(rng: &mut Rng) -> Transfer {
+    // A table of the five would be indexed, and its bound shown.
     match rng.below(5) {
         0 => Transfer::Box,
         1 => Transfer::Unbox,

@@ -3,6 +3,7 @@ use std::alloc::{AllocError, Global};
 
 // A word to stand in the place of another.
 fn drawn_word(rng: &mut Rng, old: u32) -> u32 {
+    // The arms are the weights of the draw.
     match rng.below(4) {
         0 => rng.below(14),
         1 => rng.below(40),
@@ -21,6 +22,7 @@ fn spoil(rng: &mut Rng, rows: &mut Vec<u32>) {
 // Rows with one or two words changed, cut short, or lengthened.
 pub fn damaged(rng: &mut Rng, heap: Global, rows: &[u32]) -> Result<Vec<u32>, AllocError> {
     let mut bad = Vec::from_slice(heap, rows)?;
+    // The arms are the weights of the draw.
     match rng.below(8) {
         0..=3 => spoil(rng, &mut bad),
         4..=5 => {

@@ -140,6 +140,7 @@ impl<'a> Author<'a> {
     // A statement that breaks a rule here, if one was found.
     pub fn flawed(&mut self, rule: Rule) -> Result<Option<Statement>, AllocError> {
         for _ in 0..CANDIDATES {
+            // The arms are the weights of the draw.
             let candidate = match self.rng.below(8) {
                 0 => self.candidate_set(),
                 1 => self.candidate_show(),

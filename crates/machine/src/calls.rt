@@ -38,6 +38,7 @@ impl<'a> Machine<'a> {
         requires { CanPass (control self.old) (memory self.old) at many }
         ensures { Passed (control self.old) (memory self.old) at many (control self.new) (memory self.new) }
     {
+        // Arguments stand two words apart and their values one: the number of an argument gives both places.
         for i in 0..many as usize {
             let word = self.argument(at + 2 * i);
             self.store_next(i, word);
@@ -88,6 +89,7 @@ impl<'a> Machine<'a> {
     {
         let base = self.base;
         let frames = &mut *self.frames;
+        // `from` may lie past `to`, so no part of the frames is cut out and filled.
         for x in from..to {
             frames[base + x as usize] = 0;
         }

@@ -14,7 +14,8 @@ use owned::names::Var;
 
 // A program that runs in lent memory: there is no heap, so boxes are cells by their numbers, and open procedures are
 // frames of words. `count` and `over` stand beside `shown`, and not in a struct with it: `shown` is lent for another
-// time than the rest, and the proof of a run takes no struct with a borrow of another lifetime as a field.
+// time than the rest, and the proof of a run takes no struct with a borrow of another lifetime as a field. `rows` stands
+// beside `tables`: in there its length would not be known to fit, and three sums got no proof.
 #[derive(Drop)]
 pub struct Machine<'a> {
     pub rows: &'a [u32],

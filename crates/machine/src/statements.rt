@@ -8,6 +8,7 @@ use crate::machine::{Halt, Machine};
 use owned::decode::Transfer;
 use owned::names::Var;
 
+// x is the destination and y the source, as the page on the language names them: a struct of both would say no more.
 impl<'a> Machine<'a> {
     // x := the value of the expression at a place
     pub(crate) fn set_number(&mut self, x: Var, at: usize)

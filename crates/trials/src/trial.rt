@@ -20,6 +20,7 @@ pub struct Trial {
 
 // Limits with so many cells: small and large numbers of calls and turns.
 pub fn drawn_limits(rng: &mut Rng, cells: u32) -> Limits {
+    // The arms are the weights of the draw.
     let calls = match rng.below(8) {
         0 => rng.below(3),
         1..=3 => rng.below(6).saturating_add(1),
