@@ -7,7 +7,8 @@ use owned::cells::FreeCells;
 use owned::{Judged, enough as is_enough, judge};
 use std::fmt;
 
-// How a run came out: the result, how many numbers were shown, the turns left; or why there is none.
+// How a run came out: the result, how many numbers were shown, the turns left; or why there is none. No Result: the
+// project's interface names these ways and their words.
 #[derive(Clone, Copy, Debug, PartialEq, Eq)]
 pub enum Ran {
     Done(u32, usize, u64),
@@ -135,11 +136,18 @@ fn run_kept<O: Observer>(
     ran
 }
 
-// Whether there are enough work words: as judging wants, 2 for each cell and 512 for each open call.
+// Words that running asks for beyond judging: 2 for each cell and 512 for each open call.
+fn run_words(cells: u32, depth: u32) -> usize
+    ensures { result ≡ 2 * cells + 512 * depth }
+{
+    2 * cells as usize + 512 * depth as usize
+}
+
+// Whether there are enough work words for judging and running.
 fn enough(words: usize, limits: Limits, work: usize) -> bool
     ensures { result ≡ nat_le (8192 + 4 * words + (2 * limits.cells + 512 * limits.depth)) work }
 {
-    let run = 2 * limits.cells as usize + 512 * limits.depth as usize;
+    let run = run_words(limits.cells, limits.depth);
     work >= run && is_enough(words, work - run)
 }
 
@@ -149,7 +157,7 @@ pub fn work_words(words: usize, cells: u32, depth: u32) -> usize
 {
     words
         .saturating_mul(4)
-        .saturating_add(8192 + 2 * cells as usize + 512 * depth as usize)
+        .saturating_add(8192 + run_words(cells, depth))
 }
 
 // Runs a program that keeps the rules, on so many cells, with so many calls open at once and so many turns. The limits

@@ -32,7 +32,8 @@ pub const BODY: usize = 3;
 
 pub const RELEASED: usize = 4;
 
-// Where the statement at a place is entered: a pair is entered where its first part is.
+// Where the statement at a place is entered: a pair is entered where its first part is. How many pairs lie in a row is
+// known only as they are read, so there is no range to run over.
 fn entry(rows: &[u32], at: usize) -> usize
     requires { StandsS rows.now at }
     ensures enters { Enters rows.now at result }
@@ -218,7 +219,8 @@ impl Linker<'_> {
     }
 }
 
-// Fills the tables of the program that the rows are.
+// Fills the tables of the program that the rows are. Each table is lent for itself, with a word for each word of the
+// rows: a step of a run reads one or two of them, never a whole row of all.
 pub fn link(
     rows: &[u32],
     follow: &mut [u32],

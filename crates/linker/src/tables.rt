@@ -1,7 +1,8 @@
 ghost use Rattle.std.specs.Prelude.{◌≤◌, length};
 
 // The tables of a program while they are filled: a word for each word of the rows, in lent memory, since there is no
-// heap. The interpreter reads each of them by the place at hand.
+// heap. Three tables of words and no rows of structs: the memory is lent as words, and a step of a run reads one or two
+// of them, by the place at hand.
 #[derive(Drop)]
 pub(crate) struct Linker<'a> {
     pub rows: &'a [u32],

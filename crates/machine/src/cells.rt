@@ -9,7 +9,8 @@ use owned::cells::FreeCells;
 use owned::names::{CellIndex, Kind};
 
 // The cells of boxes, by their numbers: what is in each, and which are free. Contents and links are lent words, each in
-// a table of its own, since the free list is kept without looking at what cells hold.
+// a table of its own, since the free list is kept without looking at what cells hold. Which cells are in use is asked for
+// where it matters: no word here says it, only the boxes that are held do.
 #[derive(Drop)]
 pub struct Cells<'a> {
     pub contents: &'a mut [u32],

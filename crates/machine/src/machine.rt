@@ -161,7 +161,7 @@ impl<'a> Machine<'a> {
         ensures came { CameOut budget (control self.old) (memory self.old) (control self.new) result }
         ensures kept { Kept (control self.old) (control self.new) }
     {
-        // A `for` over the budget, which is no word of the processor, makes every run slower by a tenth.
+        // A `for` over the budget, which is no word of the processor, makes most runs slower, by up to a sixth.
         let mut left = budget;
         let mut at = at;
         loop {

@@ -20,7 +20,8 @@ fn combine(code: u32, a: u32, b: u32) -> u32
 }
 
 // A word below 2 begins a leaf, 0 a number and 1 a variable, as the rows have it: an enum made from it would be matched
-// again at once here too.
+// again at once here too. That an expression can be evaluated is asked for: it is so at the places of expressions alone,
+// and the machine, which lies here, knows only the place of its step.
 impl<'a> Machine<'a> {
     // The number at a place, or the value of the variable there.
     fn leaf(&self, at: usize) -> u32

@@ -20,6 +20,7 @@ impl<'a> FreeCells<'a> {
         ensures list { FreeList result.links.now result.head (replicate cells free) }
         ensures many { result.cells ≡ cells }
         ensures past { drop cells result.links.now ≡ drop cells links.old }
+        ensures lent { result.links.ghost_name ≡ links.entry.ghost_name }
     {
         for (cell, link) in links[..cells as usize].iter_mut().enumerate() {
             *link = cell as u32 + 1;
@@ -36,6 +37,7 @@ impl<'a> FreeCells<'a> {
         requires { (cs : List Cell) × FreeList self.old.links.now self.old.head cs × (length cs ≡ self.old.cells) }
         ensures first { (cs : List Cell) → FreeList self.old.links.now self.old.head cs → length cs ≡ self.old.cells → TakenFirst self.new.links.now self.old.head self.new.head cs result }
         ensures same { self.new.links.now ≡ self.old.links.now }
+        ensures lent { self.new.links.ghost_name ≡ self.old.links.ghost_name }
         ensures many { self.new.cells ≡ self.old.cells }
     {
         if self.head == self.cells {
@@ -50,6 +52,7 @@ impl<'a> FreeCells<'a> {
     pub fn give_back(&mut self, cell: CellIndex)
         requires { (cs : List Cell) × FreeList self.old.links.now self.old.head cs × InUse cs cell.0 }
         ensures back { (cs : List Cell) → FreeList self.old.links.now self.old.head cs → InUse cs cell.0 → GivenBack self.old.links.now self.new.links.now self.new.head cs cell.0 }
+        ensures lent { self.new.links.ghost_name ≡ self.old.links.ghost_name }
         ensures many { self.new.cells ≡ self.old.cells }
     {
         if cell.0 < self.head {

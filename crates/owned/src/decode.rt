@@ -189,6 +189,7 @@ pub fn standing<H: Head>(rows: &[u32], at: usize) -> H
     head_at::<H>(rows, at).unwrap()
 }
 
+// Its loop and that of statements are alike, but an expression has expressions alone, and a statement all three.
 // Where n expressions end that stand one after the other from a place on, each at most so deep.
 fn expressions_end(rows: &[u32], at: usize, n: u32, depth: u32) -> Option<usize>
     requires { at ≤ length rows.now }

@@ -17,7 +17,8 @@ pub use procs::MAX_WORDS;
 use program::Program;
 use std::fmt;
 
-// What is said of a program: it keeps the rules or not; the rows are none; or there are too few work words to tell.
+// What is said of a program: it keeps the rules or not; the rows are none; or there are too few work words to tell. These
+// four are the project's interface, so they are no Result.
 #[derive(Clone, Copy, Debug, PartialEq, Eq)]
 pub enum Judged {
     Keeps,

@@ -1,4 +1,4 @@
-ghost use Rattle.std.specs.Prelude.{ℕ, ◌≡◌, ◌^◌, ◌<◌, ◌≤◌, true, bit_or, bit_xor};
+ghost use Rattle.std.specs.Prelude.{ℕ, ◌≡◌, ◌^◌, ◌<◌, ◌≤◌, true, false, bit_or, bit_xor};
 ghost use Rattle.owned.specs.VarSets.{bit_of, FirstDifference};
 ghost use Rattle.owned.specs.Decode.{variable};
 
@@ -50,7 +50,8 @@ impl VarSet {
     pub fn of_those<F: Fn(Var) -> bool>(n: u32, is_meant: F) -> VarSet
         requires few { n ≤ 32 }
         requires callable { F.IsAlwaysCallable is_meant }
-        ensures { (x : ℕ) → x < n → F.post is_meant (variable x) (bit_of result.0 x) }
+        ensures those { (x : ℕ) → x < n → F.post is_meant (variable x) (bit_of result.0 x) }
+        ensures others { (x : ℕ) → n ≤ x → bit_of result.0 x ≡ false }
     {
         let mut those = VarSet(0);
         for x in 0..n {

@@ -50,7 +50,7 @@ fn request(rt: &HostRuntime) -> anyhow::Result<Request> {
 // Writes what was shown, and how the run ended.
 fn report(rt: &HostRuntime, ran: Ran, shown: &[u32]) -> anyhow::Result<()> {
     let Ran::Done(result, count, left) = ran else {
-        println!(rt; "{}", ran.name())?;
+        println!(rt; "{ran}")?;
         return Ok(());
     };
     for number in shown.iter().take(count) {

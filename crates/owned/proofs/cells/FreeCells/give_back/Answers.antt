@@ -2,9 +2,6 @@ use Rattle.std.proofs.Common.{arith}
 use Rattle.owned.proofs.FreeCells.{link_there, given_first, walk_begin, link_after, walk_more, given_after}
 use Rattle.owned.proofs.cells.FreeCells.give_back.Goals as goal
 
-pub bounds-self-cell : goal.bounds-self-cell
-bounds-self-cell c = link_there c.args.self.now.links.now c.args.self.now.head c.requires.0 c.requires.1 c.args.cell.0 c.requires.2
-
 pub returns-then-cell-self-clause-back : goal.returns-then-cell-self-clause-back
 returns-then-cell-self-clause-back c cs l u = given_first c.args.self.now.links.now c.args.self.now.head cs l c.args.cell.0 u c.if-cell-self.true
 

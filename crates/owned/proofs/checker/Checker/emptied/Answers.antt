@@ -1,5 +1,5 @@
 use Rattle.std.proofs.Common.{length, arith}
-use Rattle.owned.proofs.Bits.{full_within, full_bit, clear_bit, clear_empty}
+use Rattle.owned.proofs.Bits.{full_within, full_bit, clear_bit}
 use Rattle.owned.proofs.checker.Checker.emptied.Goals as goal
 
 pub without-requires : goal.without-requires
@@ -9,6 +9,3 @@ without-requires c =
 
 pub returns-then-is_full : goal.returns-then-is_full
 returns-then-is_full c = clear_bit (length c.args.self.now.procedure.kinds.now) c.args.full.0 c.args.x.0 _ c.without.ensures c.if-is_full.ensures
-
-pub returns-else-is_full : goal.returns-else-is_full
-returns-else-is_full c = clear_empty (length c.args.self.now.procedure.kinds.now) c.args.full.0 c.args.x.0 c.if-is_full.ensures

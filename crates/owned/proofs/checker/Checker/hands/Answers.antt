@@ -1,20 +1,10 @@
-use Rattle.std.proofs.Common.{refl, arith}
 use Rattle.owned.specs.Views.{seen, sig_of}
-use Rattle.owned.proofs.Arguments.{hands_other, hands_no, hands_twice, hands_number, hands_box, hands_done}
+use Rattle.owned.proofs.Arguments.{hands_other, hands_twice, hands_number, hands_box}
 use Rattle.owned.proofs.checker.Checker.hands.Goals as goal
 use Rattle.owned.proofs.checker.Checker.hands.Goals.{else-not-is_number-via-then-not-is_number+else-stands_among, else-not-is_number-via-else-not-is_number}
 
 pub returns-then-arguments-callee : goal.returns-then-arguments-callee
 returns-then-arguments-callee c = hands_other (seen c.args.self.now) (sig_of c.args.callee.now) c.args.arguments.now c.args.full (λ e. c.if-arguments-callee.true e)
-
-pub loop-i-init : goal.loop-i-init
-loop-i-init c = refl
-
-pub overflow_cast-i : goal.overflow_cast-i
-overflow_cast-i c = omega (arith, c.requires)
-
-pub returns-then-not-hands_over : goal.returns-then-not-hands_over
-returns-then-not-hands_over c = hands_no (seen c.args.self.now) (sig_of c.args.callee.now) c.args.arguments.now c.args.full c.loop-i.i c.loop-i.left c.loop-i.invariant c.loop-i-test.true _ c.if-not-hands_over.ensures
 
 pub returns-then-stands_among : goal.returns-then-stands_among
 returns-then-stands_among c =
@@ -31,6 +21,3 @@ loop-i-preserved c =
           hands_number (seen c.args.self.now) (sig_of c.args.callee.now) c.args.arguments.now c.args.full c.loop-i.i c.loop-i.left c.loop-i.invariant c.loop-i-test.true _ c.if-not-hands_over.ensures
           c.after_argument-left.result c.after_argument-left.ensures w.if-not-is_number.ensures
     ]
-
-pub returns : goal.returns
-returns c = hands_done (seen c.args.self.now) (sig_of c.args.callee.now) c.args.arguments.now c.args.full c.loop-i.i c.loop-i.left c.loop-i.invariant (omega arith) c.if-arguments-callee.false
