@@ -1,4 +1,4 @@
-ghost use Rattle.std.specs.Prelude.{◌≡◌, ◌+◌, ◌*◌, ◌^◌, ◌<◌, ◌≤◌, length, nat_le};
+ghost use Rattle.std.specs.Prelude.{◌≡◌, ◌+◌, ◌*◌, ◌^◌, ◌-◌, ◌<◌, ◌≤◌, length, min, nat_le};
 ghost use Rattle.interpreter.specs.Going.{GoPost, CanGo, Went, stopped_by, ended, named};
 
 use linker::{PROC_WORDS, link};
@@ -151,9 +151,10 @@ fn enough(words: usize, limits: Limits, work: usize) -> bool
     work >= run && is_enough(words, work - run)
 }
 
-// The work words that running so many words asks for, on so many cells and with so many open calls.
+// The work words that running so many words asks for, on so many cells and with so many open calls; the most that
+// there can be where these would be more.
 pub fn work_words(words: usize, cells: u32, depth: u32) -> usize
-    ensures { words < 2 ^ 61 → result ≡ 8192 + 4 * words + (2 * cells + 512 * depth) }
+    ensures { result ≡ min (8192 + 4 * words + (2 * cells + 512 * depth)) (2 ^ 64 - 1) }
 {
     words
         .saturating_mul(4)
