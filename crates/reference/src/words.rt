@@ -161,7 +161,7 @@ impl From<Head> for u32 {
         match head {
             Head::Number => 0,
             Head::Variable => 1,
-            Head::Reckoned(operator) => FIRST_OPERATOR.saturating_add(operator as u32),
+            Head::Reckoned(operator) => FIRST_OPERATOR + operator as u32,
         }
     }
 }
