@@ -366,22 +366,11 @@ impl<'a> Author<'a> {
 }
 
 fn drawn_operator(rng: &mut Rng) -> Operator {
-    // A table of the four would be indexed, and its bound shown.
-    match rng.below(4) {
-        0 => Operator::Add,
-        1 => Operator::Subtract,
-        2 => Operator::Multiply,
-        _ => Operator::Less,
-    }
+    let chosen = rng.place(Operator::ALL.len()) as usize;
+    Operator::ALL.get(chosen).copied().unwrap_or(Operator::Less)
 }
 
 pub fn drawn_transfer(rng: &mut Rng) -> Transfer {
-    // A table of the five would be indexed, and its bound shown.
-    match rng.below(5) {
-        0 => Transfer::Box,
-        1 => Transfer::Unbox,
-        2 => Transfer::Look,
-        3 => Transfer::Fill,
-        _ => Transfer::Move,
-    }
+    let chosen = rng.place(Transfer::ALL.len()) as usize;
+    Transfer::ALL.get(chosen).copied().unwrap_or(Transfer::Move)
 }

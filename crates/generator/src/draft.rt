@@ -57,10 +57,11 @@ pub fn generate(heap: Global, number: u32, wanted: Option<Rule>) -> Result<Draft
     }
     let mut draft = attempt(heap, number, wanted)?;
     for again in 1..ATTEMPTS {
-        if draft.broken != wanted {
-            let other = number.wrapping_add(again.wrapping_mul(10_000));
-            draft = attempt(heap, other, wanted)?;
+        if draft.broken == wanted {
+            break;
         }
+        let other = number.wrapping_add(again.wrapping_mul(10_000));
+        draft = attempt(heap, other, wanted)?;
     }
     Ok(draft)
 }

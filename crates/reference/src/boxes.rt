@@ -54,6 +54,7 @@ impl fmt::Display for Fault {
     }
 }
 
+// This and the next each take another variant out: the pattern is all there is to it.
 impl TryFrom<Value> for u32 {
     type Error = Fault;
 
@@ -84,7 +85,7 @@ pub struct Boxes {
 }
 
 impl Boxes {
-    pub fn new(heap: Global) -> Boxes {
+    pub(crate) fn new(heap: Global) -> Boxes {
         Boxes {
             held: BTreeMap::new(heap),
             made: 0,
@@ -95,7 +96,7 @@ impl Boxes {
         self.held.len()
     }
 
-    pub fn make(&mut self, value: Value) -> Result<Value, AllocError> {
+    pub(crate) fn make(&mut self, value: Value) -> Result<Value, AllocError> {
         let name = Name(self.made);
         self.held.insert(name, value)?;
         self.made = self.made.wrapping_add(1);
@@ -109,21 +110,21 @@ impl Boxes {
     }
 
     // Puts something into a box, over what is in it.
-    pub fn store(&mut self, holder: Value, value: Value) -> Result<(), Fault> {
+    pub(crate) fn store(&mut self, holder: Value, value: Value) -> Result<(), Fault> {
         let name = Name::try_from(holder)?;
         *self.held.get_mut(&name).ok_or(Fault::Gone)? = value;
         Ok(())
     }
 
     // Takes a box away. Gives what was in it.
-    pub fn free(&mut self, holder: Value) -> Result<Value, Fault> {
+    pub(crate) fn free(&mut self, holder: Value) -> Result<Value, Fault> {
         let name = Name::try_from(holder)?;
         self.held.remove(&name).ok_or(Fault::Gone)
     }
 
     // Gives back a value of a kind, with all boxes in it. No cell is chosen here, so it makes no difference which of
     // them goes first.
-    pub fn give_back(&mut self, kind: u32, value: Value) -> Result<(), Fault> {
+    pub(crate) fn give_back(&mut self, kind: u32, value: Value) -> Result<(), Fault> {
         let mut outer = value;
         for _ in 0..kind {
             if outer == Value::Empty {

@@ -20,6 +20,7 @@ impl Full {
         Full { variables }
     }
 
+    // A variable that is not there stays away, here as in a frame: the two hold different things.
     fn put(&mut self, x: Var, is_full: bool) {
         if let Some(place) = self.variables.get_mut(usize::from(x)) {
             *place = is_full;

@@ -61,7 +61,7 @@ impl<'a> Frame<'a> {
             .unwrap_or(Value::Empty)
     }
 
-    // A variable that is not there stays away.
+    // A variable that is not there stays away, here as in a set of full ones: the two hold different things.
     fn put(&mut self, x: Var, value: Value) {
         if let Some(place) = self.variables.get_mut(usize::from(x)) {
             *place = value;
@@ -99,7 +99,7 @@ impl<'a> Run<'a> {
             boxes: Boxes::new(heap),
             limits,
             shown: Vec::new(heap),
-            tally: Tally::new(),
+            tally: Tally::default(),
         }
     }
 

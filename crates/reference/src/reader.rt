@@ -15,7 +15,7 @@ const MAX_ARGUMENTS: u32 = 8;
 const MAX_KIND: u32 = 8;
 
 // How many statements and expressions may stand in one another.
-pub const MAX_NESTING: u32 = 128;
+const MAX_NESTING: u32 = 128;
 
 // Why there is no tree.
 #[derive(Clone, Copy, Debug, PartialEq, Eq)]
@@ -189,9 +189,10 @@ pub fn read_program(heap: Global, rows: &[u32]) -> Result<Program, Unread> {
     let mut reader = Reader { rows, at: 0, heap };
     let mut procedures = Vec::new(heap);
     for _ in 0..MAX_PROCEDURES {
-        if reader.at < rows.len() {
-            procedures.push(reader.procedure()?)?;
+        if reader.at >= rows.len() {
+            break;
         }
+        procedures.push(reader.procedure()?)?;
     }
     if reader.at < rows.len() {
         return Err(Unread::NoProgram);

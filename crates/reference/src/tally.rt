@@ -39,7 +39,7 @@ impl fmt::Display for Event {
 
 // How often statements of each form were executed, boxes of each kind made, and events met, each in the order of its
 // enum or of kinds. Arrays and no maps, since counting may not run out of memory.
-#[derive(Clone, Copy)]
+#[derive(Clone, Copy, Default)]
 pub struct Tally {
     pub forms: [u64; Form::ALL.len()],
     pub kinds: [u64; 9],
@@ -59,14 +59,6 @@ fn add_each(counts: &mut [u64], others: &[u64]) {
 }
 
 impl Tally {
-    pub fn new() -> Tally {
-        Tally {
-            forms: [0; Form::ALL.len()],
-            kinds: [0; 9],
-            events: [0; Event::ALL.len()],
-        }
-    }
-
     pub fn count(&mut self, statement: &Statement) {
         bump(&mut self.forms, Form::from(statement) as usize);
     }

@@ -15,6 +15,10 @@ pub enum Mark {
     Lent,
 }
 
+impl Mark {
+    pub(crate) const ALL: [Mark; 2] = [Mark::Over, Mark::Lent];
+}
+
 // An argument of a call: a variable of the caller.
 #[derive(Clone, Copy, Debug, PartialEq, Eq)]
 pub struct Argument {
@@ -28,6 +32,15 @@ pub enum Operator {
     Subtract,
     Multiply,
     Less,
+}
+
+impl Operator {
+    pub const ALL: [Operator; 4] = [
+        Operator::Add,
+        Operator::Subtract,
+        Operator::Multiply,
+        Operator::Less,
+    ];
 }
 
 #[derive(Drop)]
@@ -45,6 +58,16 @@ pub enum Transfer {
     Look,
     Fill,
     Move,
+}
+
+impl Transfer {
+    pub const ALL: [Transfer; 5] = [
+        Transfer::Box,
+        Transfer::Unbox,
+        Transfer::Look,
+        Transfer::Fill,
+        Transfer::Move,
+    ];
 }
 
 #[derive(Drop)]
@@ -79,6 +102,7 @@ pub struct Node {
 // What a caller knows of a procedure.
 #[derive(Drop)]
 pub struct Signature {
+    // A kind is a number, which falls by one with each box that is opened.
     pub kinds: Vec<u32>,
     pub marks: Vec<Mark>,
     pub result: Var,

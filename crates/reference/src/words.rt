@@ -108,10 +108,7 @@ impl fmt::Display for Form {
 
 impl From<Mark> for u32 {
     fn from(mark: Mark) -> u32 {
-        match mark {
-            Mark::Over => 0,
-            Mark::Lent => 1,
-        }
+        mark as u32
     }
 }
 
@@ -119,11 +116,10 @@ impl TryFrom<u32> for Mark {
     type Error = UnknownWord;
 
     fn try_from(word: u32) -> Result<Mark, UnknownWord> {
-        match word {
-            0 => Ok(Mark::Over),
-            1 => Ok(Mark::Lent),
-            _ => Err(UnknownWord(word)),
-        }
+        Mark::ALL
+            .get(word as usize)
+            .copied()
+            .ok_or(UnknownWord(word))
     }
 }
 
@@ -133,6 +129,21 @@ pub enum Head {
     Number,
     Variable,
     Reckoned(Operator),
+}
+
+// The word for the first operator.
+const FIRST_OPERATOR: u32 = 2;
+
+impl Head {
+    // In the order of their words.
+    pub(crate) const ALL: [Head; 6] = [
+        Head::Number,
+        Head::Variable,
+        Head::Reckoned(Operator::Add),
+        Head::Reckoned(Operator::Subtract),
+        Head::Reckoned(Operator::Multiply),
+        Head::Reckoned(Operator::Less),
+    ];
 }
 
 impl From<&Expression> for Head {
@@ -150,10 +161,7 @@ impl From<Head> for u32 {
         match head {
             Head::Number => 0,
             Head::Variable => 1,
-            Head::Reckoned(Operator::Add) => 2,
-            Head::Reckoned(Operator::Subtract) => 3,
-            Head::Reckoned(Operator::Multiply) => 4,
-            Head::Reckoned(Operator::Less) => 5,
+            Head::Reckoned(operator) => FIRST_OPERATOR + operator as u32,
         }
     }
 }
@@ -162,14 +170,9 @@ impl TryFrom<u32> for Head {
     type Error = UnknownWord;
 
     fn try_from(word: u32) -> Result<Head, UnknownWord> {
-        match word {
-            0 => Ok(Head::Number),
-            1 => Ok(Head::Variable),
-            2 => Ok(Head::Reckoned(Operator::Add)),
-            3 => Ok(Head::Reckoned(Operator::Subtract)),
-            4 => Ok(Head::Reckoned(Operator::Multiply)),
-            5 => Ok(Head::Reckoned(Operator::Less)),
-            _ => Err(UnknownWord(word)),
-        }
+        Head::ALL
+            .get(word as usize)
+            .copied()
+            .ok_or(UnknownWord(word))
     }
 }

@@ -1,4 +1,4 @@
-use crate::memory::{content, frame_word, free_cells};
+use crate::memory::free_cells;
 use crate::owners::Owners;
 use crate::trial::Allowed;
 use interpreter::{Machine, Observer, Ran};
@@ -57,6 +57,7 @@ impl<'s, 'm, 'r> Step<'s, 'm, 'r> {
 
     // A word of the machine and a value of a kind are the same, down to the number.
     fn value(&mut self, kind: u32, word: u32, value: Value) -> Result<(), Difference> {
+        let machine = self.machine;
         let mut word = word;
         let mut value = value;
         for _ in 0..kind {
@@ -66,7 +67,8 @@ impl<'s, 'm, 'r> Step<'s, 'm, 'r> {
             let cell = word.checked_sub(1).ok_or(Difference::Variable)?;
             let noted = self.owners.note(cell, Name::try_from(value)?);
             ensure(noted, Difference::Variable)?;
-            word = content(self.machine, cell).ok_or(Difference::Variable)?;
+            let inner = machine.cells.contents.get(cell as usize);
+            word = *inner.ok_or(Difference::Variable)?;
             value = self.run.boxes.open(value)?;
         }
         ensure(value == Value::Number(word), Difference::Variable)
@@ -74,12 +76,13 @@ impl<'s, 'm, 'r> Step<'s, 'm, 'r> {
 
     // The variables of an open procedure, whose words begin here.
     fn variables(&mut self, frame: &Frame, base: usize) -> Result<(), Difference> {
+        let machine = self.machine;
         let procedure = self.program.procedures.get(frame.procedure as usize);
         let kinds = &procedure.ok_or(Difference::Variable)?.signature.kinds;
         ensure(frame.variables.len() == kinds.len(), Difference::Variable)?;
         let held = kinds.iter().zip(frame.variables.iter());
         for (at, (kind, value)) in (base..).zip(held) {
-            let word = frame_word(self.machine, at).ok_or(Difference::Variable)?;
+            let word = *machine.frames.get(at).ok_or(Difference::Variable)?;
             self.value(*kind, word, *value)?;
         }
         Ok(())
@@ -87,13 +90,14 @@ impl<'s, 'm, 'r> Step<'s, 'm, 'r> {
 
     // Where a caller goes on, its number, and where the result goes.
     fn control(&self, frame: &Frame, base: usize) -> Result<(), Difference> {
+        let machine = self.machine;
         let first = base.saturating_add(VARIABLES);
-        let at = frame_word(self.machine, first).ok_or(Difference::Caller)?;
-        let procedure = frame_word(self.machine, first.saturating_add(1));
-        let into = frame_word(self.machine, first.saturating_add(2));
+        let at = *machine.frames.get(first).ok_or(Difference::Caller)?;
+        let procedure = machine.frames.get(first.saturating_add(1));
+        let into = machine.frames.get(first.saturating_add(2));
         let same = self.is_at(at as usize, frame)
-            && procedure == Some(frame.procedure)
-            && into == Some(frame.into.0);
+            && procedure == Some(&frame.procedure)
+            && into == Some(&frame.into.0);
         ensure(same, Difference::Caller)
     }
 

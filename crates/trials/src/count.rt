@@ -6,7 +6,7 @@ use reference::rules::Rule;
 use reference::tally::Tally;
 
 // How often a rule was broken, and what came of it.
-#[derive(Clone, Copy, Debug)]
+#[derive(Clone, Copy, Debug, Default)]
 pub struct Broken {
     pub programs: u32,
     pub faults: u32,
@@ -14,7 +14,7 @@ pub struct Broken {
 
 // What the trials came to. Rules and faults are counted each in the order of its enum, in arrays and no maps, since
 // counting may not run out of memory.
-#[derive(Clone, Copy)]
+#[derive(Clone, Copy, Default)]
 pub struct Counts {
     pub kept: u32,
     pub careless: u32,
@@ -32,23 +32,6 @@ fn bump(count: &mut u32) {
 }
 
 impl Counts {
-    pub fn new() -> Counts {
-        Counts {
-            kept: 0,
-            careless: 0,
-            runs: 0,
-            steps: 0,
-            tally: Tally::new(),
-            endings: Endings::new(),
-            broken: [Broken {
-                programs: 0,
-                faults: 0,
-            }; Rule::ALL.len()],
-            faults: [0; Fault::ALL.len()],
-            differences: 0,
-        }
-    }
-
     pub(crate) fn keep(&mut self) {
         bump(&mut self.kept);
     }

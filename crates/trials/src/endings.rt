@@ -1,7 +1,7 @@
 use interpreter::Ran;
 
 // How often `go` gave each ending, or said why there is none.
-#[derive(Clone, Copy, Debug)]
+#[derive(Clone, Copy, Debug, Default)]
 pub struct Endings {
     done: u32,
     full: u32,
@@ -14,19 +14,6 @@ pub struct Endings {
 }
 
 impl Endings {
-    pub(crate) fn new() -> Endings {
-        Endings {
-            done: 0,
-            full: 0,
-            spent: 0,
-            deep: 0,
-            out_full: 0,
-            careless: 0,
-            no_program: 0,
-            small: 0,
-        }
-    }
-
     fn counter(&mut self, ending: Ran) -> &mut u32 {
         match ending {
             Ran::Done(_, _, _) => &mut self.done,

@@ -19,7 +19,6 @@ use owned::Judged;
 use reference::interpreter::Limits;
 use reference::rules::Rule;
 use reference::tree::Program;
-use report::{print_answers, print_programs};
 use subject::{Subject, Verdict};
 use trial::{Allowed, drawn_limits, drawn_room, run_alone};
 
@@ -58,7 +57,7 @@ impl<'a> Trials<'a> {
     fn new(rt: &'a HostRuntime) -> Trials<'a> {
         Trials {
             rt,
-            counts: Counts::new(),
+            counts: Counts::default(),
         }
     }
 
@@ -170,9 +169,9 @@ fn main(rt: HostRuntime) -> anyhow::Result<()> {
         let rows = rows_at_limit(heap, number)?;
         limits.try_rows(number.wrapping_add(DAMAGED), rows.as_slice())?;
     }
-    print_programs(&rt, PROGRAMS, &programs.counts)?;
-    print_answers(&rt, "answers to damaged rows", &bad.counts)?;
-    print_answers(&rt, "answers to rows at limits", &limits.counts)?;
+    programs.print_programs(PROGRAMS)?;
+    bad.print_answers("answers to damaged rows")?;
+    limits.print_answers("answers to rows at limits")?;
     let differences = [programs, bad, limits]
         .iter()
         .map(|trials| trials.counts.differences)

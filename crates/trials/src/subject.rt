@@ -52,7 +52,7 @@ impl<'a> Subject<'a> {
         })
     }
 
-    // What is said by `judge`, in so many work words.
+    // What is said by `judge`, in so many work words. The crate of tests has the same: neither stands on the other.
     pub(crate) fn judged(&self, words: usize) -> Result<Judged, AllocError> {
         let mut work = vec![in self.heap; 0; words]?;
         Ok(judge(self.rows, work.as_mut_slice()))

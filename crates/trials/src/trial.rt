@@ -26,6 +26,7 @@ pub fn drawn_limits(rng: &mut Rng, cells: u32) -> Limits {
         1..=3 => rng.below(6).saturating_add(1),
         _ => rng.below(24).saturating_add(8),
     };
+    // The arms are the weights of the draw.
     let turns = match rng.below(6) {
         0 => rng.below(4),
         1 => rng.below(40),
@@ -68,10 +69,7 @@ pub fn run_alone(heap: Global, program: &Program, limits: Limits) -> Stop {
     if let Err(stop) = run.start() {
         return stop;
     }
-    for _ in 0..STEPS {
-        if let Err(stop) = run.step() {
-            return stop;
-        }
-    }
-    Stop::Spent
+    (0..STEPS)
+        .find_map(|_| run.step().err())
+        .unwrap_or(Stop::Spent)
 }
