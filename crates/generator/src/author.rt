@@ -118,7 +118,7 @@ impl<'a> Author<'a> {
         if !self.rng.once_in(2) {
             return Ok((self.operand(), left));
         }
-        let operator = drawn_operator(self.rng);
+        let operator = drawn(self.rng, &Operator::ALL, Operator::Less);
         let (a, left) = self.expression_within(left)?;
         let (b, left) = self.expression_within(left)?;
         Ok((reckoned(self.heap, operator, a, b)?, left))
@@ -365,12 +365,12 @@ impl<'a> Author<'a> {
     }
 }
 
-fn drawn_operator(rng: &mut Rng) -> Operator {
-    let chosen = rng.place(Operator::ALL.len()) as usize;
-    Operator::ALL.get(chosen).copied().unwrap_or(Operator::Less)
+// One of these, each as often as the others.
+fn drawn<T: Copy>(rng: &mut Rng, all: &[T], last: T) -> T {
+    let chosen = rng.place(all.len()) as usize;
+    all.get(chosen).copied().unwrap_or(last)
 }
 
 pub fn drawn_transfer(rng: &mut Rng) -> Transfer {
-    let chosen = rng.place(Transfer::ALL.len()) as usize;
-    Transfer::ALL.get(chosen).copied().unwrap_or(Transfer::Move)
+    drawn(rng, &Transfer::ALL, Transfer::Move)
 }
