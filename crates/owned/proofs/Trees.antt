@@ -1,13 +1,12 @@
 -- Ownership by recursion on the tree: what a value that is a tree holds, and what may be done with it.
 -- The frame lemma carries the rest: a cell in use outside a tree stays as it is while the tree is given back.
-use Rattle.std.proofs.Common.{◌≡◌, ℕ, zero, suc, ◌+◌, true, false, List, [], ◌∷◌, ◌++◌, length, get_or, set, Some, sym, refl, ap, ◌∙◌, arith}
+use Rattle.std.proofs.Common.{◌≡◌, ℕ, zero, suc, false, List, [], ◌∷◌, ◌++◌, length, get_or, set, Some, sym, refl, ap, ◌∙◌, arith}
 use Rattle.std.specs.List.{slice_get}
 use Rattle.std.proofs.lemmas.List.{set-set, set_comm}
 use Rattle.std.proofs.lemmas.Bool.{eq-eqb, both_ways}
 use Rattle.owned.specs.Runs.{Val, n, at, nothing, Cell, free, holds, St, R, held}
-use Rattle.owned.specs.Values.{Tree, weight, of_kind}
-use Rattle.owned.specs.Holders.{Owns, OwnsAll, frees, ReleaseKeeps}
-use Rattle.owned.specs.Strict.{freed}
+use Rattle.owned.specs.Values.{Tree}
+use Rattle.owned.specs.Holders.{Owns, OwnsAll, frees, ReleaseKeeps, StrictReleaseKeeps}
 use Rattle.owned.proofs.Refinement.{freed_give}
 use Rattle.owned.proofs.Places.{none_some, get_or_nth, nth_set, nth_set_other, set_nth}
 
@@ -75,15 +74,8 @@ frees_fill (free ∷ cs) (suc a) b b' v w e = ap suc (frees_fill cs a b b' v w e
 frees_fill (holds c u ∷ cs) zero b b' v w e = refl
 frees_fill (holds c u ∷ cs) (suc a) b b' v w e = frees_fill cs a b b' v w e
 
--- what is left once a value has been given back, as memory does it
-pub record Freed (k : ℕ) (v : Val) (t : Tree) (P : List Cell → Type 0) (cs : List Cell) : Type 0 where
-  pub left : List Cell
-  pub does : freed k v cs ≡ Some left
-  pub rest : P left
-  pub more : frees left ≡ weight t + frees cs
-
 -- giving back: what is in a box is given back while the box's cell is framed
-pub free_tree : (k : ℕ) (t : Tree) (v : Val) (P : List Cell → Type 0) (cs : List Cell) → of_kind k t ≡ true → Owns t v P cs → Freed k v t P cs
+pub free_tree : StrictReleaseKeeps
 free_tree zero (Tree.num m) v P cs o h = record { left = cs; does = refl; rest = h.1; more = omega arith }
 free_tree zero Tree.bare v P cs o h = elim (both_ways false refl o) [ ]
 free_tree zero (Tree.box t) v P cs o h = elim (both_ways false refl o) [ ]

@@ -4,6 +4,7 @@ use Rattle.std.specs.List.{slice_get}
 use Rattle.owned.specs.Program.{S, Sig, Prog, bit, kind, is_lent}
 use Rattle.owned.specs.Runs.{Val, n, at, nothing, Cell, free, holds, St, fine, Chooser, give, get, cell_at, with_cells, used}
 use Rattle.owned.specs.Machine.{Frame}
+use Rattle.owned.specs.Strict.{freed}
 use Rattle.owned.specs.Kept.{Full, is_full, both, keeps, ends_well}
 use Rattle.owned.specs.Values.{Tree, weight, of_kind}
 
@@ -46,6 +47,17 @@ pub record Released (k : ℕ) (v : Val) (t : Tree) (P : List Cell → Type 0) (s
 -- and leaves the rest of the world as it is.
 abbrev pub ReleaseKeeps : Type 1
 ReleaseKeeps = (k : ℕ) (t : Tree) (v : Val) (P : List Cell → Type 0) (s : St) → of_kind k t ≡ true → Owns t v P s.cells → Released k v t P s
+
+-- The same of strict steps, in which each cell must still be its box's as its turn comes: what is left of the cells.
+pub record Freed (k : ℕ) (v : Val) (t : Tree) (P : List Cell → Type 0) (cs : List Cell) : Type 0 where
+  pub left : List Cell
+  pub does : freed k v cs ≡ Some left
+  pub rest : P left
+  pub more : frees left ≡ weight t + frees cs
+
+-- More than the one before: it is what the proofs of the promise's fields use, and the one before follows.
+abbrev pub StrictReleaseKeeps : Type 1
+StrictReleaseKeeps = (k : ℕ) (t : Tree) (v : Val) (P : List Cell → Type 0) (cs : List Cell) → of_kind k t ≡ true → Owns t v P cs → Freed k v t P cs
 
 -- how often a value refers to the cell a; values; what cells hold; and a cell in use is one
 abbrev pub refers : ℕ → Val → ℕ
