@@ -19,7 +19,8 @@ impl<'a> Machine<'a> {
         self.store(x, word);
     }
 
-    // x := a new box with y in it
+    // x := a new box with y in it. The two variables are parts of the head that says the statement, here and below: one
+    // name for both would be no plainer.
     fn make_box(&mut self, x: Var, y: Var) -> Result<(), Halt>
         requires { CanDo (control self.old) (memory self.old) (between Box x.0 y.0) }
         ensures here { control self.new ≡ control self.old }

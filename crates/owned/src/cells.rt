@@ -5,7 +5,8 @@ ghost use Rattle.owned.specs.FreeList.{FreeList, InUse, TakenFirst, GivenBack};
 use crate::names::CellIndex;
 
 // The free ones of so many cells, in ascending order: the head is the first, and the link of each is the next. The links
-// lie in lent words: there is no heap.
+// lie in lent words: there is no heap. That they are the list of some cells is asked for, and no invariant here: which
+// cells are in use is known to those who hold boxes alone.
 #[derive(Drop)]
 pub struct FreeCells<'a> {
     pub links: &'a mut [u32],

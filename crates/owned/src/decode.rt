@@ -189,8 +189,8 @@ pub fn standing<H: Head>(rows: &[u32], at: usize) -> H
     head_at::<H>(rows, at).unwrap()
 }
 
-// Its loop and that of statements are alike, but an expression has expressions alone, and a statement all three.
-// Where n expressions end that stand one after the other from a place on, each at most so deep.
+// Where n expressions end that stand one after the other from a place on, each at most so deep. Its loop and that of
+// statements are alike, but an expression has expressions alone, and a statement all three.
 fn expressions_end(rows: &[u32], at: usize, n: u32, depth: u32) -> Option<usize>
     requires { at ≤ length rows.now }
     ensures { Ended rows.now (many (λ us. read_e depth us) n (drop at rows.now)) result }

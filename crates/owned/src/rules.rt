@@ -81,7 +81,8 @@ impl Checker<'_> {
         }
     }
 
-    // What a statement with a destination x and a source y asks.
+    // What a statement with a destination x and a source y asks. The two are parts of the head that says the statement:
+    // one name for both would be no plainer.
     fn allows(&self, how: Transfer, x: Var, y: Var, full: VarSet) -> bool
         ensures { result ≡ allows how (seen self.now).sig (full_of (seen self.now) full) x.0 y.0 }
     {
