@@ -34,14 +34,14 @@ const ROOM: usize = 16_384;
 
 // What the words after the program's name ask for.
 fn request(rt: &HostRuntime) -> anyhow::Result<Request> {
-    let words: Vec<String> = env::args(rt)?.skip(1).collect(rt.alloc())?;
     let mut parser = Parser::new();
-    for (at, word) in (1u64..).zip(words.iter()) {
+    let mut count = 0;
+    for (at, word) in (1u64..).zip(env::args(rt)?.skip(1)) {
         parser = parser
             .take(word.as_str())
             .map_err(|slip| anyhow!("word {at}: {slip}: '{word}'"))?;
+        count = at;
     }
-    let count = words.len();
     parser
         .finish()
         .map_err(|slip| anyhow!("word {count}: {slip}"))

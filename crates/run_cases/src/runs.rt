@@ -26,9 +26,11 @@ fn ends(
     Ok(go(program, 3, 2, 10, shown, work.as_mut_slice()).name())
 }
 
+// 8,192 words, 4 for each of 12 words, 2 for each of 3 cells, 512 for each of 2 open calls.
 #[test]
 fn floor_of_work_words(rt: HostRuntime) -> Result<(), Fail> {
-    let floor = work_words(SHOWING.len(), 3, 2);
+    let floor = 8192 + 4 * 12 + 2 * 3 + 512 * 2;
+    assert_eq!(rt; work_words(SHOWING.len(), 3, 2), floor);
     let mut shown = [9; 2];
     assert_eq!(rt; ends(rt.alloc(), &SHOWING, &mut shown, floor - 1)?, "small");
     assert_eq!(rt; shown[0], 9);

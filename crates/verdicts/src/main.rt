@@ -2,14 +2,17 @@
 
 use anyhow::Context;
 use input::parse_numbers;
-use owned::{MAX_WORDS, WORK_WORDS, judge};
+use owned::{MAX_WORDS, judge};
 use std::io::{BufRead, BufReader};
+
+// Enough work words for 256 words of a program: of a longer one is said that they are few.
+const WORK_WORDS: usize = 8192 + 4 * 256;
 
 // What is said of the program in a line of numbers.
 fn verdict(rt: &HostRuntime, rows: &str) -> anyhow::Result<&'static str> {
     let program = parse_numbers(rt.alloc(), rows.as_bytes(), MAX_WORDS)?;
-    let mut work = vec![in rt.alloc(); 0; WORK_WORDS]?;
-    Ok(judge(program.as_slice(), work.as_mut_slice()).name())
+    let mut work = [0; WORK_WORDS];
+    Ok(judge(program.as_slice(), &mut work).name())
 }
 
 // Judges a program for each line, LABEL: ROWS, and says whether the label begins with the verdict.
