@@ -4,9 +4,10 @@ use crate::build::{branch, in_order, in_order_leftward, pair, reckoned, repeated
 use crate::flaw::Flaw;
 use crate::plan::{LOOPS, Roles};
 use crate::rng::Rng;
+use crate::tree::{Expression, Statement};
 use reference::full::Full;
 use reference::rules::{Rule, Scope};
-use reference::tree::{Expression, Operator, Statement, Transfer, Var};
+use reference::tree::{Operator, Transfer, Var};
 use std::alloc::{AllocError, Global};
 
 // How often something that fits is looked for at random.

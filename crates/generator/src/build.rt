@@ -1,13 +1,9 @@
-use reference::tree::{Expression, Node, Operator, Statement};
+use crate::tree::{Expression, Statement};
+use reference::tree::Operator;
 use std::alloc::{AllocError, Global};
 
-// A statement that stands in another. Where that is in the rows is told by them alone.
-fn inner(heap: Global, statement: Statement) -> Result<Box<Node>, AllocError> {
-    Ok(Box::new(heap, Node { at: 0, statement })?)
-}
-
 pub(crate) fn pair(heap: Global, s: Statement, t: Statement) -> Result<Statement, AllocError> {
-    Ok(Statement::Then(inner(heap, s)?, inner(heap, t)?))
+    Ok(Statement::Then(Box::new(heap, s)?, Box::new(heap, t)?))
 }
 
 pub(crate) fn branch(
@@ -16,7 +12,7 @@ pub(crate) fn branch(
     s: Statement,
     t: Statement,
 ) -> Result<Statement, AllocError> {
-    Ok(Statement::If(test, inner(heap, s)?, inner(heap, t)?))
+    Ok(Statement::If(test, Box::new(heap, s)?, Box::new(heap, t)?))
 }
 
 pub(crate) fn repeated(
@@ -24,7 +20,7 @@ pub(crate) fn repeated(
     test: Expression,
     s: Statement,
 ) -> Result<Statement, AllocError> {
-    Ok(Statement::While(test, inner(heap, s)?))
+    Ok(Statement::While(test, Box::new(heap, s)?))
 }
 
 pub(crate) fn reckoned(

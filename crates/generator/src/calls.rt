@@ -1,7 +1,8 @@
 use crate::author::{Author, TRIES};
 use crate::build::{in_order, reckoned};
 use crate::plan::Roles;
-use reference::tree::{Argument, Call, Expression, Mark, Operator, Procedure, Statement, Var};
+use crate::tree::{Call, Expression, Statement};
+use reference::tree::{Argument, Mark, Operator, Procedure, Var};
 use std::alloc::AllocError;
 
 impl<'a> Author<'a> {
@@ -85,19 +86,21 @@ impl<'a> Author<'a> {
             return Ok(Statement::Skip);
         };
         let mut before = Vec::new(self.heap);
-        let mut call = Call {
-            into: Var(0),
-            procedure: f,
-            arguments: self.arguments(f, called, &mut before)?,
-        };
+        let arguments = self.arguments(f, called, &mut before)?;
         let found = (0..TRIES).find_map(|_| {
-            call.into = self.usable();
-            self.scope.call(self.full, &call).ok()
+            let x = self.usable();
+            let after = self.scope.call(self.full, x, f, arguments.as_slice());
+            Some((x, after.ok()?))
         });
-        let Some(after) = found else {
+        let Some((into, after)) = found else {
             return in_order(self.heap, before, Statement::Skip);
         };
         self.full = after;
+        let call = Call {
+            into,
+            procedure: f,
+            arguments,
+        };
         in_order(self.heap, before, Statement::Call(call))
     }
 

@@ -1,6 +1,7 @@
 use crate::author::{Author, drawn_transfer};
+use crate::tree::{Call, Expression, Statement};
 use reference::rules::Rule;
-use reference::tree::{Argument, Call, Expression, Mark, Signature, Statement, Var};
+use reference::tree::{Argument, Mark, Signature, Token, Var};
 use std::alloc::AllocError;
 
 // How many statements are tried until one breaks the rule.
@@ -34,20 +35,21 @@ impl<'a> Author<'a> {
 
     fn candidate_set(&mut self) -> Candidate {
         let x = self.any();
-        let e = Expression::Variable(self.any());
+        let y = self.any();
+        let token = Token::Variable(y);
         let scope = self.scope;
         Candidate {
-            breaks: scope.set(x).and_then(|()| scope.reckon(&e)).err(),
-            statement: Statement::Set(x, e),
+            breaks: scope.set(x).and_then(|()| scope.reckon(&[token])).err(),
+            statement: Statement::Set(x, Expression::Variable(y)),
         }
     }
 
     fn candidate_show(&mut self) -> Candidate {
-        let e = Expression::Variable(self.any());
+        let y = self.any();
         let scope = self.scope;
         Candidate {
-            breaks: scope.reckon(&e).err(),
-            statement: Statement::Show(e),
+            breaks: scope.reckon(&[Token::Variable(y)]).err(),
+            statement: Statement::Show(Expression::Variable(y)),
         }
     }
 
@@ -126,13 +128,15 @@ impl<'a> Author<'a> {
             }
             None => (self.any_of(0), Vec::new(self.heap)),
         };
+        let scope = self.scope;
+        let after = scope.call(self.full, into, procedure, arguments.as_slice());
         let call = Call {
             into,
             procedure,
             arguments,
         };
         Ok(Candidate {
-            breaks: self.scope.call(self.full, &call).err(),
+            breaks: after.err(),
             statement: Statement::Call(call),
         })
     }

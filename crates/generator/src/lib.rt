@@ -11,3 +11,4 @@ pub mod limits;
 mod plan;
 pub mod rng;
 mod rows;
+mod tree;

@@ -1,6 +1,7 @@
 use crate::build::{pair, reckoned};
 use crate::rows::Rows;
-use reference::tree::{Argument, Call, Expression, Mark, Operator, Signature, Statement, Var};
+use crate::tree::{Call, Expression, Statement};
+use reference::tree::{Argument, Mark, Operator, Signature, Var};
 use std::alloc::{AllocError, Global};
 
 // What a program may have only so many of, or so deep.

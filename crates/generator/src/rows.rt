@@ -1,4 +1,5 @@
-use reference::tree::{Call, Expression, Signature, Statement, Var};
+use crate::tree::{Call, Expression, Statement};
+use reference::tree::{Signature, Var};
 use reference::words::{Form, Head};
 use std::alloc::{AllocError, Global};
 
@@ -60,8 +61,8 @@ impl Rows {
         match statement {
             Statement::Skip => Ok(()),
             Statement::Then(s, t) => {
-                self.statement(&s.statement)?;
-                self.statement(&t.statement)
+                self.statement(s)?;
+                self.statement(t)
             }
             Statement::Set(x, e) => {
                 self.words.push(x.0)?;
@@ -74,12 +75,12 @@ impl Rows {
             }
             Statement::If(e, s, t) => {
                 self.expression(e)?;
-                self.statement(&s.statement)?;
-                self.statement(&t.statement)
+                self.statement(s)?;
+                self.statement(t)
             }
             Statement::While(e, s) => {
                 self.expression(e)?;
-                self.statement(&s.statement)
+                self.statement(s)
             }
             Statement::Call(call) => self.call(call),
             Statement::Show(e) => self.expression(e),

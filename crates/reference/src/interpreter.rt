@@ -1,7 +1,11 @@
+ghost use Rattle.std.specs.Prelude.{◌≤◌, IfOk, length};
+
 use crate::boxes::{Boxes, Fault, Name, Value};
+use crate::reader::MAX_NESTING;
 use crate::tally::{Event, Tally};
 use crate::tree::{
-    Argument, Call, Expression, Mark, Node, Operator, Program, Signature, Statement, Transfer, Var,
+    Argument, Call, Expression, Mark, NodeId, Operator, Program, Signature, Statement, Token,
+    Transfer, Var,
 };
 use std::alloc::{AllocError, AllocFailed, Global};
 use std::mem;
@@ -45,14 +49,14 @@ pub struct Limits {
 
 // An open procedure: what is still to be done in it, the last first, and where the result of its call goes.
 #[derive(Drop)]
-pub struct Frame<'a> {
+pub struct Frame {
     pub procedure: u32,
     pub variables: Vec<Value>,
-    pub to_do: Vec<&'a Node>,
+    pub to_do: Vec<NodeId>,
     pub into: Var,
 }
 
-impl<'a> Frame<'a> {
+impl Frame {
     // What a variable holds; nothing, if it is not there.
     pub fn get(&self, x: Var) -> Value {
         self.variables
@@ -74,8 +78,8 @@ impl<'a> Frame<'a> {
 pub struct Run<'a> {
     program: &'a Program,
     heap: Global,
-    pub running: Frame<'a>,
-    pub callers: Vec<Frame<'a>>,
+    pub running: Frame,
+    pub callers: Vec<Frame>,
     pub boxes: Boxes,
     pub limits: Limits,
     pub shown: Vec<u32>,
@@ -122,16 +126,27 @@ impl<'a> Run<'a> {
         u32::try_from(self.running.get(x))
     }
 
-    fn value(&self, e: &Expression) -> Result<u32, Fault> {
-        match e {
-            Expression::Number(number) => Ok(*number),
-            Expression::Variable(x) => self.number(*x),
-            Expression::Reckoned(operator, a, b) => {
-                let a = self.value(a)?;
-                let b = self.value(b)?;
-                Ok(reckon(*operator, a, b))
+    // The value of the expression that these tokens begin with, 0 if there are none, and the tokens behind it.
+    fn operand<'t>(&self, tokens: &'t [Token]) -> Result<(u32, &'t [Token]), Fault>
+        ensures { IfOk result (λ r. length r.1.now ≤ length tokens.now) }
+    {
+        let Some((token, rest)) = tokens.split_first() else {
+            return Ok((0, tokens));
+        };
+        match token {
+            Token::Number(number) => Ok((*number, rest)),
+            Token::Variable(x) => Ok((self.number(*x)?, rest)),
+            Token::Operator(operator) => {
+                let (a, rest) = self.operand(rest)?;
+                let (b, rest) = self.operand(rest)?;
+                Ok((reckon(*operator, a, b), rest))
             }
         }
+    }
+
+    fn value(&self, e: Expression) -> Result<u32, Fault> {
+        let (number, _) = self.operand(self.program.tokens_of(e))?;
+        Ok(number)
     }
 
     // Takes from a variable: copies a number, moves a box.
@@ -211,7 +226,7 @@ impl<'a> Run<'a> {
     }
 
     // Opens a procedure with these arguments: the running one waits for it.
-    fn open(&mut self, procedure: u32, arguments: &[Value]) -> Result<Frame<'a>, Stop> {
+    fn open(&mut self, procedure: u32, arguments: &[Value]) -> Result<Frame, Stop> {
         let opened = self
             .program
             .procedures
@@ -225,7 +240,7 @@ impl<'a> Run<'a> {
         Ok(Frame {
             procedure,
             variables,
-            to_do: vec![in self.heap; &opened.body]?,
+            to_do: vec![in self.heap; opened.body]?,
             into: Var(0),
         })
     }
@@ -254,12 +269,12 @@ impl<'a> Run<'a> {
         }
     }
 
-    fn call(&mut self, call: &Call) -> Result<(), Stop> {
+    fn call(&mut self, call: Call) -> Result<(), Stop> {
         if self.open_calls() >= self.limits.calls as usize {
             return Err(Stop::Deep);
         }
         let mut arguments = Vec::new(self.heap);
-        for argument in call.arguments.iter() {
+        for argument in self.program.arguments_of(call) {
             arguments.push(self.argument(*argument)?)?;
         }
         let called = self.open(call.procedure, arguments.as_slice())?;
@@ -328,7 +343,7 @@ impl<'a> Run<'a> {
     }
 
     // A turn of a loop, if its test says so. The loop comes again after its body.
-    fn repeat(&mut self, whole: &'a Node, e: &Expression, body: &'a Node) -> Result<(), Stop> {
+    fn repeat(&mut self, whole: NodeId, e: Expression, body: NodeId) -> Result<(), Stop> {
         if self.value(e)? != 0 {
             self.take_turn()?;
             self.running.to_do.push(whole)?;
@@ -337,21 +352,22 @@ impl<'a> Run<'a> {
         Ok(())
     }
 
-    fn execute(&mut self, node: &'a Node) -> Result<(), Stop> {
-        self.tally.count(&node.statement);
-        match &node.statement {
+    fn execute(&mut self, id: NodeId) -> Result<(), Stop> {
+        let statement = self.program.node(id).statement;
+        self.tally.count(statement);
+        match statement {
             Statement::Skip | Statement::Then(_, _) => {}
             Statement::Set(x, e) => {
                 let number = self.value(e)?;
-                self.put(*x, Value::Number(number))?;
+                self.put(x, Value::Number(number))?;
             }
-            Statement::Between(what, x, y) => self.transfer(*what, *x, *y)?,
-            Statement::Drop(x) => self.put(*x, Value::Empty)?,
+            Statement::Between(what, x, y) => self.transfer(what, x, y)?,
+            Statement::Drop(x) => self.put(x, Value::Empty)?,
             Statement::If(e, s, t) => {
                 let part = if self.value(e)? != 0 { s } else { t };
                 self.running.to_do.push(part)?;
             }
-            Statement::While(e, s) => self.repeat(node, e, s)?,
+            Statement::While(e, s) => self.repeat(id, e, s)?,
             Statement::Call(call) => self.call(call)?,
             Statement::Show(e) => {
                 let number = self.value(e)?;
@@ -363,22 +379,26 @@ impl<'a> Run<'a> {
 
     // A pair takes no step: it is entered at once, and so are pairs at its beginning.
     fn enter(&mut self) -> Result<(), Stop> {
-        let Some(mut node) = self.running.to_do.pop() else {
+        let Some(mut id) = self.running.to_do.pop() else {
             return Ok(());
         };
-        while let Statement::Then(s, t) = &node.statement {
-            self.tally.count(&node.statement);
+        for _ in 0..MAX_NESTING {
+            let statement = self.program.node(id).statement;
+            let Statement::Then(s, t) = statement else {
+                break;
+            };
+            self.tally.count(statement);
             self.running.to_do.push(t)?;
-            node = s;
+            id = s;
         }
-        self.running.to_do.push(node)?;
+        self.running.to_do.push(id)?;
         Ok(())
     }
 
     // One step: the next statement, or the end of the running procedure.
     pub fn step(&mut self) -> Result<(), Stop> {
         match self.running.to_do.pop() {
-            Some(node) => self.execute(node)?,
+            Some(id) => self.execute(id)?,
             None => self.end()?,
         }
         self.enter()
@@ -386,7 +406,8 @@ impl<'a> Run<'a> {
 
     // Where a procedure goes on in the rows, unless it is at its end.
     pub fn place(&self, frame: &Frame) -> Option<usize> {
-        frame.to_do.last().map(|node| node.at)
+        let id = frame.to_do.last()?;
+        Some(self.program.node(*id).at)
     }
 }
 

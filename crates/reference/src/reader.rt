@@ -1,5 +1,6 @@
 use crate::tree::{
-    Argument, Call, Expression, Mark, Node, Procedure, Program, Signature, Statement, Transfer, Var,
+    Argument, Call, Expression, Mark, Node, NodeId, Procedure, Program, Signature, Statement,
+    Token, Transfer, Var,
 };
 use crate::words::{Form, Head, UnknownWord};
 use std::alloc::{AllocError, AllocFailed, Global};
@@ -15,7 +16,7 @@ const MAX_ARGUMENTS: u32 = 8;
 const MAX_KIND: u32 = 8;
 
 // How many statements and expressions may stand in one another.
-const MAX_NESTING: u32 = 128;
+pub const MAX_NESTING: u32 = 128;
 
 // Why there is no tree.
 #[derive(Clone, Copy, Debug, PartialEq, Eq)]
@@ -42,12 +43,13 @@ impl From<UnknownWord> for Unread {
     }
 }
 
-// The rows, and where reading has come.
+// The rows, where reading has come, and what was read.
 #[derive(Drop)]
 struct Reader<'a> {
     rows: &'a [u32],
     at: usize,
     heap: Global,
+    program: Program,
 }
 
 impl<'a> Reader<'a> {
@@ -95,18 +97,31 @@ impl<'a> Reader<'a> {
         Ok(all)
     }
 
-    // An expression that may nest so deep.
-    fn expression(&mut self, depth: u32) -> Result<Expression, Unread> {
+    fn token(&mut self) -> Result<Token, Unread> {
+        Ok(match Head::try_from(self.word()?)? {
+            Head::Number => Token::Number(self.word()?),
+            Head::Variable => Token::Variable(self.var()?),
+            Head::Reckoned(operator) => Token::Operator(operator),
+        })
+    }
+
+    // The tokens of an expression that may nest so deep.
+    fn operand(&mut self, depth: u32) -> Result<(), Unread> {
         let inner = depth.checked_sub(1).ok_or(Unread::NoProgram)?;
-        match Head::try_from(self.word()?)? {
-            Head::Number => Ok(Expression::Number(self.word()?)),
-            Head::Variable => Ok(Expression::Variable(self.var()?)),
-            Head::Reckoned(operator) => {
-                let a = self.expression(inner)?;
-                let b = self.expression(inner)?;
-                Ok(Expression::Reckoned(operator, Box::new(self.heap, a)?, Box::new(self.heap, b)?))
-            }
+        let token = self.token()?;
+        self.program.tokens.push(token)?;
+        if let Token::Operator(_) = token {
+            self.operand(inner)?;
+            self.operand(inner)?;
         }
+        Ok(())
+    }
+
+    fn expression(&mut self, depth: u32) -> Result<Expression, Unread> {
+        let first = self.program.tokens.len();
+        self.operand(depth)?;
+        let end = self.program.tokens.len();
+        Ok(Expression { first, end })
     }
 
     fn between(&mut self, what: Transfer) -> Result<Statement, Unread> {
@@ -119,29 +134,27 @@ impl<'a> Reader<'a> {
         let into = self.var()?;
         let procedure = self.word()?;
         let count = self.word()?;
-        let arguments = self.many(count, |reader| reader.argument())?;
+        let first = self.program.arguments.len();
+        for _ in 0..count {
+            let argument = self.argument()?;
+            self.program.arguments.push(argument)?;
+        }
+        let end = self.program.arguments.len();
         Ok(Call {
             into,
             procedure,
-            arguments,
+            first,
+            end,
         })
     }
 
-    // A statement in another, which may nest so deep.
-    #[cycle(nesting)]
-    fn inner(&mut self, depth: u32) -> Result<Box<Node>, Unread> {
-        let node = self.node(depth)?;
-        Ok(Box::new(self.heap, node)?)
-    }
-
     // A statement that may nest so deep.
-    #[cycle(nesting)]
-    fn node(&mut self, depth: u32) -> Result<Node, Unread> {
+    fn node(&mut self, depth: u32) -> Result<NodeId, Unread> {
         let inner = depth.checked_sub(1).ok_or(Unread::NoProgram)?;
         let at = self.at;
         let statement = match Form::try_from(self.word()?)? {
             Form::Skip => Statement::Skip,
-            Form::Then => Statement::Then(self.inner(inner)?, self.inner(inner)?),
+            Form::Then => Statement::Then(self.node(inner)?, self.node(inner)?),
             Form::Set => Statement::Set(self.var()?, self.expression(inner)?),
             Form::Box => self.between(Transfer::Box)?,
             Form::Unbox => self.between(Transfer::Unbox)?,
@@ -151,14 +164,16 @@ impl<'a> Reader<'a> {
             Form::Drop => Statement::Drop(self.var()?),
             Form::If => Statement::If(
                 self.expression(inner)?,
-                self.inner(inner)?,
-                self.inner(inner)?,
+                self.node(inner)?,
+                self.node(inner)?,
             ),
-            Form::While => Statement::While(self.expression(inner)?, self.inner(inner)?),
+            Form::While => Statement::While(self.expression(inner)?, self.node(inner)?),
             Form::Call => Statement::Call(self.call()?),
             Form::Show => Statement::Show(self.expression(inner)?),
         };
-        Ok(Node { at, statement })
+        let id = NodeId(self.program.nodes.len());
+        self.program.nodes.push(Node { at, statement })?;
+        Ok(id)
     }
 
     fn signature(&mut self) -> Result<Signature, Unread> {
@@ -174,7 +189,7 @@ impl<'a> Reader<'a> {
         })
     }
 
-    fn procedure(&mut self) -> Result<Procedure<Node>, Unread> {
+    fn procedure(&mut self) -> Result<Procedure<NodeId>, Unread> {
         let signature = self.signature()?;
         let body = self.node(MAX_NESTING)?;
         Ok(Procedure { signature, body })
@@ -186,16 +201,21 @@ pub fn read_program(heap: Global, rows: &[u32]) -> Result<Program, Unread> {
     if rows.len() > MAX_WORDS {
         return Err(Unread::NoProgram);
     }
-    let mut reader = Reader { rows, at: 0, heap };
-    let mut procedures = Vec::new(heap);
+    let mut reader = Reader {
+        rows,
+        at: 0,
+        heap,
+        program: Program::new(heap),
+    };
     for _ in 0..MAX_PROCEDURES {
         if reader.at >= rows.len() {
             break;
         }
-        procedures.push(reader.procedure()?)?;
+        let procedure = reader.procedure()?;
+        reader.program.procedures.push(procedure)?;
     }
     if reader.at < rows.len() {
         return Err(Unread::NoProgram);
     }
-    Ok(Program { procedures })
+    Ok(reader.program)
 }

@@ -1,6 +1,7 @@
 use crate::full::Full;
+use crate::reader::MAX_NESTING;
 use crate::tree::{
-    Argument, Call, Expression, Mark, Node, Procedure, Program, Signature, Statement, Transfer, Var,
+    Argument, Mark, NodeId, Procedure, Program, Signature, Statement, Token, Transfer, Var,
 };
 use std::fmt;
 
@@ -141,16 +142,15 @@ impl<'a, B> Scope<'a, B> {
     }
 
     // An expression is over number variables.
-    pub fn reckon(&self, e: &Expression) -> Result<(), Rule> {
-        match e {
-            Expression::Number(_) => Ok(()),
-            Expression::Variable(x) if self.kind(*x)? > 0 => Err(Rule::ReckonsWithBox),
-            Expression::Variable(_) => Ok(()),
-            Expression::Reckoned(_, a, b) => {
-                self.reckon(a)?;
-                self.reckon(b)
+    pub fn reckon(&self, tokens: &[Token]) -> Result<(), Rule> {
+        for token in tokens {
+            if let Token::Variable(x) = token
+                && self.kind(*x)? > 0
+            {
+                return Err(Rule::ReckonsWithBox);
             }
         }
+        Ok(())
     }
 
     pub fn set(&self, x: Var) -> Result<(), Rule> {
@@ -252,35 +252,35 @@ impl<'a, B> Scope<'a, B> {
     }
 
     // The result goes into a variable of its kind that is no box lent in this call.
-    fn result_into(&self, call: &Call, kind: Option<u32>) -> Result<(), Rule> {
-        let into = self.taker(call.into)?;
+    fn result_into(&self, x: Var, arguments: &[Argument], kind: Option<u32>) -> Result<(), Rule> {
+        let into = self.taker(x)?;
         if kind != Some(into) {
             return Err(Rule::ResultKind);
         }
         let lent = Argument {
-            var: call.into,
+            var: x,
             mark: Mark::Lent,
         };
-        if into > 0 && call.arguments.contains(&lent) {
+        if into > 0 && arguments.contains(&lent) {
             return Err(Rule::ResultIntoLoan);
         }
         Ok(())
     }
 
-    pub fn call(&self, full: Full, call: &Call) -> Result<Full, Rule> {
-        let procedure = self.procedures.get(call.procedure as usize);
+    pub fn call(&self, full: Full, x: Var, f: u32, arguments: &[Argument]) -> Result<Full, Rule> {
+        let procedure = self.procedures.get(f as usize);
         let called = &procedure.ok_or(Rule::NoProcedure)?.signature;
-        if call.arguments.len() != called.marks.len() {
+        if arguments.len() != called.marks.len() {
             return Err(Rule::ArgumentCount);
         }
-        self.once_each(call.arguments.as_slice())?;
+        self.once_each(arguments)?;
         let wanted = called.marks.iter().zip(called.kinds.iter());
-        let mut given = call.arguments.iter().zip(wanted);
+        let mut given = arguments.iter().zip(wanted);
         let mut after = given.try_fold(full, |after, (a, (mark, kind))| {
             self.argument(after, *a, *mark, *kind)
         })?;
-        self.result_into(call, called.kind(called.result))?;
-        after.add(call.into);
+        self.result_into(x, arguments, called.kind(called.result))?;
+        after.add(x);
         Ok(after)
     }
 
@@ -297,35 +297,41 @@ impl<'a, B> Scope<'a, B> {
         Ok(())
     }
 
-    // What is full after a statement.
-    fn statement(&self, statement: &Statement, full: Full) -> Result<Full, Rule> {
-        match statement {
+    // What is full after a statement that nests so deep at most.
+    fn node(&self, program: &Program, id: NodeId, full: Full, depth: u32) -> Result<Full, Rule> {
+        let Some(inner) = depth.checked_sub(1) else {
+            return Ok(full);
+        };
+        match program.node(id).statement {
             Statement::Skip => Ok(full),
             Statement::Then(s, t) => {
-                let between = self.statement(&s.statement, full)?;
-                self.statement(&t.statement, between)
+                let between = self.node(program, s, full, inner)?;
+                self.node(program, t, between, inner)
             }
             Statement::Set(x, e) => {
-                self.set(*x)?;
-                self.reckon(e)?;
+                self.set(x)?;
+                self.reckon(program.tokens_of(e))?;
                 Ok(full)
             }
-            Statement::Between(what, x, y) => self.transfer(*what, full, *x, *y),
-            Statement::Drop(x) => self.drop_box(full, *x),
+            Statement::Between(what, x, y) => self.transfer(what, full, x, y),
+            Statement::Drop(x) => self.drop_box(full, x),
             Statement::If(e, s, t) => {
-                self.reckon(e)?;
-                let after = self.statement(&s.statement, full)?;
-                let other = self.statement(&t.statement, full)?;
+                self.reckon(program.tokens_of(e))?;
+                let after = self.node(program, s, full, inner)?;
+                let other = self.node(program, t, full, inner)?;
                 same_or(after, other, Rule::BranchesDiffer)
             }
             Statement::While(e, s) => {
-                self.reckon(e)?;
-                let after = self.statement(&s.statement, full)?;
+                self.reckon(program.tokens_of(e))?;
+                let after = self.node(program, s, full, inner)?;
                 same_or(full, after, Rule::LoopChanges)
             }
-            Statement::Call(call) => self.call(full, call),
+            Statement::Call(call) => {
+                let arguments = program.arguments_of(call);
+                self.call(full, call.into, call.procedure, arguments)
+            }
             Statement::Show(e) => {
-                self.reckon(e)?;
+                self.reckon(program.tokens_of(e))?;
                 Ok(full)
             }
         }
@@ -368,7 +374,7 @@ pub fn keeps_rules(program: &Program) -> Result<(), Rule> {
             procedure,
         };
         let full = Full::at_start(&procedure.signature);
-        let after = scope.statement(&procedure.body.statement, full)?;
+        let after = scope.node(program, procedure.body, full, MAX_NESTING)?;
         scope.end(&after)?;
     }
     Ok(())

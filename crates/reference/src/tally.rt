@@ -59,7 +59,7 @@ fn add_each(counts: &mut [u64], others: &[u64]) {
 }
 
 impl Tally {
-    pub fn count(&mut self, statement: &Statement) {
+    pub fn count(&mut self, statement: Statement) {
         bump(&mut self.forms, Form::from(statement) as usize);
     }
 

@@ -1,3 +1,5 @@
+use std::alloc::Global;
+
 // A variable, by its place among the variables of its procedure.
 #[derive(Clone, Copy, Debug, PartialEq, Eq, PartialOrd, Ord)]
 pub struct Var(pub u32);
@@ -43,11 +45,18 @@ impl Operator {
     ];
 }
 
-#[derive(Drop)]
-pub enum Expression {
+#[derive(Clone, Copy, Debug, PartialEq, Eq)]
+pub enum Token {
     Number(u32),
     Variable(Var),
-    Reckoned(Operator, Box<Expression>, Box<Expression>),
+    Operator(Operator),
+}
+
+// An expression: these of the program's tokens, in prefix order.
+#[derive(Clone, Copy, Debug, PartialEq, Eq)]
+pub struct Expression {
+    pub first: usize,
+    pub end: usize,
 }
 
 // What goes from the second variable of a statement to the first.
@@ -70,30 +79,34 @@ impl Transfer {
     ];
 }
 
-#[derive(Drop)]
+// A statement of the program, by its place among the nodes.
+#[derive(Clone, Copy, Debug, PartialEq, Eq)]
+pub struct NodeId(pub usize);
+
+// A call: its arguments are these of the program's.
+#[derive(Clone, Copy, Debug, PartialEq, Eq)]
 pub struct Call {
     pub into: Var,
     pub procedure: u32,
-    pub arguments: Vec<Argument>,
+    pub first: usize,
+    pub end: usize,
 }
 
-#[cycle(tree)]
-#[derive(Drop)]
+#[derive(Clone, Copy, Debug, PartialEq, Eq)]
 pub enum Statement {
     Skip,
-    Then(Box<Node>, Box<Node>),
+    Then(NodeId, NodeId),
     Set(Var, Expression),
     Between(Transfer, Var, Var),
     Drop(Var),
-    If(Expression, Box<Node>, Box<Node>),
-    While(Expression, Box<Node>),
+    If(Expression, NodeId, NodeId),
+    While(Expression, NodeId),
     Call(Call),
     Show(Expression),
 }
 
 // A statement and where it stands in the rows.
-#[cycle(tree)]
-#[derive(Drop)]
+#[derive(Clone, Copy, Debug, PartialEq, Eq)]
 pub struct Node {
     pub at: usize,
     pub statement: Statement,
@@ -130,8 +143,44 @@ pub struct Procedure<B> {
     pub body: B,
 }
 
-// A program as a tree.
+// A program as a tree. What it is made of names its parts by their places here, so that each is a value to copy.
 #[derive(Drop)]
 pub struct Program {
-    pub procedures: Vec<Procedure<Node>>,
+    pub procedures: Vec<Procedure<NodeId>>,
+    pub nodes: Vec<Node>,
+    pub tokens: Vec<Token>,
+    pub arguments: Vec<Argument>,
+}
+
+impl Program {
+    pub(crate) fn new(heap: Global) -> Program {
+        Program {
+            procedures: Vec::new(heap),
+            nodes: Vec::new(heap),
+            tokens: Vec::new(heap),
+            arguments: Vec::new(heap),
+        }
+    }
+
+    // A node that is not there is taken for a skip.
+    pub fn node(&self, id: NodeId) -> Node {
+        let none = Node {
+            at: usize::MAX,
+            statement: Statement::Skip,
+        };
+        self.nodes.get(id.0).copied().unwrap_or(none)
+    }
+
+    pub fn tokens_of(&self, e: Expression) -> &[Token] {
+        part(self.tokens.as_slice(), e.first, e.end)
+    }
+
+    pub fn arguments_of(&self, call: Call) -> &[Argument] {
+        part(self.arguments.as_slice(), call.first, call.end)
+    }
+}
+
+// What stands from one place to another; nothing, if it is not all there.
+fn part<T>(all: &[T], first: usize, end: usize) -> &[T] {
+    all.get(first..end).unwrap_or(&[])
 }

@@ -1,4 +1,4 @@
-use crate::tree::{Expression, Mark, Operator, Statement, Transfer};
+use crate::tree::{Mark, Operator, Statement, Transfer};
 use std::fmt;
 
 // A word that stands for nothing of the sort that is read.
@@ -53,13 +53,13 @@ impl From<Transfer> for Form {
     }
 }
 
-impl From<&Statement> for Form {
-    fn from(statement: &Statement) -> Form {
+impl From<Statement> for Form {
+    fn from(statement: Statement) -> Form {
         match statement {
             Statement::Skip => Form::Skip,
             Statement::Then(_, _) => Form::Then,
             Statement::Set(_, _) => Form::Set,
-            Statement::Between(transfer, _, _) => Form::from(*transfer),
+            Statement::Between(transfer, _, _) => Form::from(transfer),
             Statement::Drop(_) => Form::Drop,
             Statement::If(_, _, _) => Form::If,
             Statement::While(_, _) => Form::While,
@@ -144,16 +144,6 @@ impl Head {
         Head::Reckoned(Operator::Multiply),
         Head::Reckoned(Operator::Less),
     ];
-}
-
-impl From<&Expression> for Head {
-    fn from(e: &Expression) -> Head {
-        match e {
-            Expression::Number(_) => Head::Number,
-            Expression::Variable(_) => Head::Variable,
-            Expression::Reckoned(operator, _, _) => Head::Reckoned(*operator),
-        }
-    }
 }
 
 impl From<Head> for u32 {
