@@ -23,6 +23,7 @@ pub(crate) fn repeated(
     Ok(Statement::While(test, Box::new(heap, s)?))
 }
 
+// Like `branch` in shape alone: the two make things of two types.
 pub(crate) fn reckoned(
     heap: Global,
     operator: Operator,
