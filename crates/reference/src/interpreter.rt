@@ -1,5 +1,3 @@
-ghost use Rattle.std.specs.Prelude.{◌≤◌, IfOk, length};
-
 use crate::boxes::{Boxes, Fault, Name, Value};
 use crate::reader::MAX_NESTING;
 use crate::tally::{Event, Tally};
@@ -126,27 +124,22 @@ impl<'a> Run<'a> {
         u32::try_from(self.running.get(x))
     }
 
-    // The value of the expression that these tokens begin with, 0 if there are none, and the tokens behind it.
-    fn operand<'t>(&self, tokens: &'t [Token]) -> Result<(u32, &'t [Token]), Fault>
-        ensures { IfOk result (λ r. length r.1.now ≤ length tokens.now) }
-    {
-        let Some((token, rest)) = tokens.split_first() else {
-            return Ok((0, tokens));
-        };
-        match token {
-            Token::Number(number) => Ok((*number, rest)),
-            Token::Variable(x) => Ok((self.number(*x)?, rest)),
-            Token::Operator(operator) => {
-                let (a, rest) = self.operand(rest)?;
-                let (b, rest) = self.operand(rest)?;
-                Ok((reckon(*operator, a, b), rest))
-            }
+    // Reckons from the last token to the first, so that operands come before their operator.
+    fn value(&self, e: Expression) -> Result<u32, Stop> {
+        let mut operands = Vec::new(self.heap);
+        for token in self.program.tokens_of(e).iter().rev() {
+            let number = match token {
+                Token::Number(number) => *number,
+                Token::Variable(x) => self.number(*x)?,
+                Token::Operator(operator) => {
+                    let a = operands.pop().unwrap_or(0);
+                    let b = operands.pop().unwrap_or(0);
+                    reckon(*operator, a, b)
+                }
+            };
+            operands.push(number)?;
         }
-    }
-
-    fn value(&self, e: Expression) -> Result<u32, Fault> {
-        let (number, _) = self.operand(self.program.tokens_of(e))?;
-        Ok(number)
+        Ok(operands.pop().unwrap_or(0))
     }
 
     // Takes from a variable: copies a number, moves a box.

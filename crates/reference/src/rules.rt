@@ -222,12 +222,18 @@ impl<'a, B> Scope<'a, B> {
     }
 
     // An argument that the called procedure marks so and gives this kind.
-    fn argument(&self, full: Full, a: Argument, mark: Mark, kind: u32) -> Result<Full, Rule> {
+    fn argument(
+        &self,
+        full: Full,
+        a: Argument,
+        mark: Mark,
+        kind: Option<u32>,
+    ) -> Result<Full, Rule> {
         let given = self.kind(a.var)?;
         if a.mark != mark {
             return Err(Rule::ArgumentMark);
         }
-        if given != kind {
+        if kind != Some(given) {
             return Err(Rule::ArgumentKind);
         }
         if !full.has(a.var) {
@@ -274,10 +280,11 @@ impl<'a, B> Scope<'a, B> {
             return Err(Rule::ArgumentCount);
         }
         self.once_each(arguments)?;
-        let wanted = called.marks.iter().zip(called.kinds.iter());
-        let mut given = arguments.iter().zip(wanted);
-        let mut after = given.try_fold(full, |after, (a, (mark, kind))| {
-            self.argument(after, *a, *mark, *kind)
+        let mut given = (0u32..)
+            .map(Var)
+            .zip(arguments.iter().zip(called.marks.iter()));
+        let mut after = given.try_fold(full, |after, (x, (a, mark))| {
+            self.argument(after, *a, *mark, called.kind(x))
         })?;
         self.result_into(x, arguments, called.kind(called.result))?;
         after.add(x);
